@@ -1,0 +1,15 @@
+-- `sets::has`: the code is the definition. Assumes nothing.
+use borrow.Author.Needs.{needs}
+use Rattle.sets.specs.Sets.{has}
+use Rattle.sets.proofs.has.Statement.{statement}
+use Rattle.sets.proofs.has.Tie as tie
+
+shr-result : tie.Need-shr-result
+shr-result c = search needs
+
+returns : tie.Need-returns
+unfolding has
+returns c = search needs
+
+pub has-spec : {M : Type 1} → statement M
+has-spec = tie.close (tie.spec shr-result returns)
