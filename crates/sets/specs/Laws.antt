@@ -9,7 +9,7 @@ use mathlib.Core.Path.{_≡_, refl, sym, ap, ap₂, _∙_, subst}
 use mathlib.Core.Logic.{_⊎_, ⊎-elim, _↔_}
 use mathlib.Core.Bool.{Bool, true, false, not, _&&_, _||_, cond, true≢false, false≢true}
 use lib.Dec.{T, eqb, ltb, leb, eqb·zero-suc, eqb·suc-zero, eqb·suc-suc, leb·suc-suc, lit<}
-use lib.Bits.{bitAnd, bitOr, bitXor, and-shr, or-shr, xor-shr, and-mod, or-mod, xor-mod, or-lt, and-lt, xor-lt, and-le-l, and-le-r, or-add-and}
+use lib.Bits.{bitAnd, bitOr, bitXor, and-shr, or-shr, xor-shr, and-mod, or-mod, xor-mod, or-lt, and-lt, xor-lt, and-le-l, and-le-r, or-add-and, and-zero-r, xor-zero-r}
 use lib.Count.{trailingZeros, under}
 use lib.Pow.{pow-pos, pow-mono, pow-lt, shr-shr, ones-lt, le-ones, lt-of-le-ones, shl-exact}
 use borrow.Author.Tests.{lt-ltb, le-ltb, eq-eqb, ne-eqb, eqb-true, eqb-false, ltb-true, le-leb, leb-true}
@@ -233,6 +233,9 @@ empty-union a b =
     and-intro (eq-eqb a 0 (omega arith)) (eq-eqb b 0 (omega arith)))
     (λ e. eq-eqb (union a b) 0
     (ap₂ union (eqb-true a 0 (and-left (empty a) (empty b) e)) (eqb-true b 0 (and-right (empty a) (empty b) e))))
+
+pub minus-zero : (x : ℕ) → minus x 0 ≡ x
+minus-zero x = ap (bitXor x) (and-zero-r x) ∙ xor-zero-r x
 
 -- a set is empty exactly if it has no member
 pub empty-members : (x : ℕ) → empty x ≡ true → (s : ℕ) → has x s ≡ false

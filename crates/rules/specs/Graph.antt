@@ -1,0 +1,101 @@
+-- Graphs (Definitions 3 and 5), and when one handed over as a value is refused.
+use Prim.Native.Nat.{ℕ}
+use mathlib.Core.List.{List, [], _∷_}
+use mathlib.Core.Bool.{Bool, true, false, not, _&&_, cond}
+use lib.ListN.{length, getD}
+use lib.Dec.{ltb, leb}
+use Rattle.sets.specs.Sets.{has, meet, minus, empty, within, every}
+use Rattle.rules.specs.declared.Graph.{Graph}
+use Rattle.rules.specs.declared.Refusal.the-variants.{Counts, Beyond, Both}
+use Rattle.rules.specs.declared.Verdict.{Verdict}
+use Rattle.rules.specs.First.{Line, first}
+
+-- ---- the relations of Definition 3
+
+-- row s of a table; nothing stands beyond its end
+abbrev pub row : List ℕ → ℕ → ℕ
+row table s = getD table s 0
+
+-- (iv) {a | a →• s}: what s waits for
+abbrev pub conditionsOf : Graph → ℕ → ℕ
+conditionsOf g s = row (g .conditions) s
+
+-- (v) {b | s •→ b}: what becomes due
+abbrev pub responsesOf : Graph → ℕ → ℕ
+responsesOf g s = row (g .responses) s
+
+-- (vi) {b | s →+ b}
+abbrev pub includesOf : Graph → ℕ → ℕ
+includesOf g s = row (g .includes) s
+
+-- (vi) {b | s →% b}
+abbrev pub excludesOf : Graph → ℕ → ℕ
+excludesOf g s = row (g .excludes) s
+
+-- ---- the role assignment of Definition 5. Each step is its own action
+
+-- {r | s as r}
+abbrev pub rolesOf : Graph → ℕ → ℕ
+rolesOf g s = row (g .allows) s
+
+-- {r | p as r}
+abbrev pub rolesHeld : Graph → ℕ → ℕ
+rolesHeld g p = row (g .holds) p
+
+-- ---- a graph handed over as a value
+
+-- k is one of 1, 2, .., most
+abbrev pub within1to : ℕ → ℕ → Bool
+within1to k most = leb 1 k && leb k most
+
+-- 2 is given unless there are 1 to 64 steps, 1 to 16 people and 1 to 16 roles
+abbrev pub countsFit : ℕ → ℕ → ℕ → Bool
+countsFit steps people roles = within1to steps 64 && within1to people 16 && within1to roles 16
+
+-- a table that keeps a row for each number below `count`: such a row names nothing at or beyond `limit`, and any other row nothing at all
+unfoldable pub keeps : ℕ → ℕ → List ℕ → Bool
+keeps count limit table = every (length table) (λ i. within (cond (ltb i count) limit 0) (row table i))
+
+-- what row i holds that it may not, where `inside` is the set of all that there is
+abbrev pub strayed : List ℕ → ℕ → ℕ → ℕ → ℕ
+strayed table count inside i = minus (row table i) (cond (ltb i count) inside 0)
+
+-- 4 is given unless each set names only what there is, and nothing is stored beyond the counts
+unfoldable pub setsFit : Graph → Bool
+setsFit g =
+    keeps (g .steps) (g .roles) (g .allows)
+    && keeps (g .people) (g .roles) (g .holds)
+    && keeps (g .steps) (g .steps) (g .conditions)
+    && keeps (g .steps) (g .steps) (g .responses)
+    && keeps (g .steps) (g .steps) (g .includes)
+    && keeps (g .steps) (g .steps) (g .excludes)
+
+-- 6 is given unless no pair is both include and exclude
+unfoldable pub kindsApart : Graph → Bool
+kindsApart g = every 64 (λ a. empty (meet (includesOf g a) (excludesOf g a)))
+
+-- the table for a graph
+abbrev pub graphLines : Graph → List Line
+graphLines g =
+    (Counts, not (countsFit (g .steps) (g .people) (g .roles)))
+    ∷ (Beyond, not (setsFit g))
+    ∷ (Both, not (kindsApart g))
+    ∷ []
+
+abbrev pub graphVerdict : Graph → Verdict
+graphVerdict g = first (graphLines g)
+
+-- a graph that is lent table by table
+abbrev pub lentGraph : ℕ → ℕ → ℕ → List ℕ → List ℕ → List ℕ → List ℕ → List ℕ → List ℕ → Graph
+lentGraph steps people roles allows holds conditions responses includes excludes =
+    record {
+      steps = steps;
+      people = people;
+      roles = roles;
+      allows = allows;
+      holds = holds;
+      conditions = conditions;
+      responses = responses;
+      includes = includes;
+      excludes = excludes;
+    }

@@ -1,0 +1,4 @@
+pub mod First
+pub mod Graph
+pub mod Move
+pub mod Laws
