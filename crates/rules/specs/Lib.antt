@@ -2,3 +2,4 @@ pub mod First
 pub mod Graph
 pub mod Move
 pub mod Laws
+pub mod Sound
