@@ -4,6 +4,7 @@ use mathlib.Core.List.{List, [], _∷_}
 use mathlib.Core.Bool.{Bool, true, false, cond}
 use Rattle.rules.specs.declared.Refusal.{Refusal}
 use Rattle.rules.specs.declared.Refusal.the-variants.{Layout, Counts, Bodies, Beyond, Arrows, Both, Length, Outside, NoRank, IllFormed, Unknown, NotHeld, NotOnStep, Excluded, Waits, NotApplied, EmptyLap, Room}
+use Rattle.rules.specs.declared.Told.{Told}
 use Rattle.rules.specs.declared.Verdict.{Verdict}
 
 -- the number of a refusal
@@ -47,6 +48,10 @@ stepOf (Waits s) = s .0
 stepOf NotApplied = 0
 stepOf EmptyLap = 0
 stepOf Room = 0
+
+-- both together
+unfoldable pub toldOf : Refusal → Told
+toldOf r = record { number = numberOf r; step = stepOf r }
 
 -- a line of a call's table: a refusal, and whether it holds
 abbrev pub Line : Type 0

@@ -1,5 +1,6 @@
 // The paper's Definitions 3 to 5 as document 01 reads them: graphs, markings, and taking a step.
 ghost use mathlib.Core.Path.{_≡_};
+ghost use Rattle.rules.specs.First.{toldOf};
 ghost use Rattle.rules.specs.Graph.{graphVerdict};
 ghost use Rattle.rules.specs.Move.{theMove, theEnding};
 
@@ -77,6 +78,64 @@ pub enum Ending {
     Finished,
     Open,
     Refused(Refusal),
+}
+
+// What a refusal says: its number on the door, and with 15 the waiting step (0 with every other).
+pub struct Told {
+    pub number: u8,
+    pub step: u8,
+}
+
+pub fn tell(r: Refusal) -> Told
+    ensures { λ t. ⌜ t ≡ toldOf r ⌝ }
+{
+    match r {
+        Refusal::Layout => Told { number: 1, step: 0 },
+        Refusal::Counts => Told { number: 2, step: 0 },
+        Refusal::Bodies => Told { number: 3, step: 0 },
+        Refusal::Beyond => Told { number: 4, step: 0 },
+        Refusal::Arrows => Told { number: 5, step: 0 },
+        Refusal::Both => Told { number: 6, step: 0 },
+        Refusal::Length => Told { number: 7, step: 0 },
+        Refusal::Outside => Told { number: 8, step: 0 },
+        Refusal::NoRank => Told { number: 9, step: 0 },
+        Refusal::IllFormed => Told {
+            number: 10,
+            step: 0,
+        },
+        Refusal::Unknown => Told {
+            number: 11,
+            step: 0,
+        },
+        Refusal::NotHeld => Told {
+            number: 12,
+            step: 0,
+        },
+        Refusal::NotOnStep => Told {
+            number: 13,
+            step: 0,
+        },
+        Refusal::Excluded => Told {
+            number: 14,
+            step: 0,
+        },
+        Refusal::Waits(s) => Told {
+            number: 15,
+            step: s.0,
+        },
+        Refusal::NotApplied => Told {
+            number: 16,
+            step: 0,
+        },
+        Refusal::EmptyLap => Told {
+            number: 17,
+            step: 0,
+        },
+        Refusal::Room => Told {
+            number: 18,
+            step: 0,
+        },
+    }
 }
 
 // Is this a graph as document 01 has it? Refusals 2, 4, 6.
