@@ -1,10 +1,10 @@
 -- Graphs (Definitions 3 and 5), and when one handed over as a value is refused.
-use Prim.Native.Nat.{ℕ}
+use Prim.Native.Nat.{ℕ, _≤_}
 use mathlib.Core.List.{List, [], _∷_}
 use mathlib.Core.Bool.{Bool, true, false, not, _&&_, cond}
 use lib.ListN.{length, getD}
 use lib.Dec.{ltb, leb}
-use Rattle.sets.specs.Sets.{has, meet, minus, empty, within, every}
+use Rattle.sets.specs.Sets.{meet, union, empty, within, every}
 use Rattle.rules.specs.declared.Graph.{Graph}
 use Rattle.rules.specs.declared.Refusal.the-variants.{Counts, Beyond, Both}
 use Rattle.rules.specs.declared.Verdict.{Verdict}
@@ -56,30 +56,31 @@ countsFit steps people roles = within1to steps 64 && within1to people 16 && with
 unfoldable pub keeps : ℕ → ℕ → List ℕ → Bool
 keeps count limit table = every (length table) (λ i. within (cond (ltb i count) limit 0) (row table i))
 
--- what row i holds that it may not, where `inside` is the set of all that there is
-abbrev pub strayed : List ℕ → ℕ → ℕ → ℕ → ℕ
-strayed table count inside i = minus (row table i) (cond (ltb i count) inside 0)
+-- the role sets of the steps and of the people
+abbrev pub rolesFit : ℕ → ℕ → ℕ → List ℕ → List ℕ → Bool
+rolesFit steps people roles allows holds = keeps steps roles allows && keeps people roles holds
+
+-- the arrows of the four kinds
+abbrev pub arrowsFit : ℕ → List ℕ → List ℕ → List ℕ → List ℕ → Bool
+arrowsFit steps conditions responses includes excludes =
+    (keeps steps steps conditions && keeps steps steps responses) && (keeps steps steps includes && keeps steps steps excludes)
 
 -- 4 is given unless each set names only what there is, and nothing is stored beyond the counts
 unfoldable pub setsFit : Graph → Bool
 setsFit g =
-    keeps (g .steps) (g .roles) (g .allows)
-    && keeps (g .people) (g .roles) (g .holds)
-    && keeps (g .steps) (g .steps) (g .conditions)
-    && keeps (g .steps) (g .steps) (g .responses)
-    && keeps (g .steps) (g .steps) (g .includes)
-    && keeps (g .steps) (g .steps) (g .excludes)
+    rolesFit (g .steps) (g .people) (g .roles) (g .allows) (g .holds)
+    && arrowsFit (g .steps) (g .conditions) (g .responses) (g .includes) (g .excludes)
 
 -- 6 is given unless no pair is both include and exclude
-unfoldable pub kindsApart : Graph → Bool
-kindsApart g = every 64 (λ a. empty (meet (includesOf g a) (excludesOf g a)))
+abbrev pub kindsApart : ℕ → List ℕ → List ℕ → Bool
+kindsApart steps includes excludes = every steps (λ a. empty (meet (row includes a) (row excludes a)))
 
 -- the table for a graph
 abbrev pub graphLines : Graph → List Line
 graphLines g =
     (Counts, not (countsFit (g .steps) (g .people) (g .roles)))
     ∷ (Beyond, not (setsFit g))
-    ∷ (Both, not (kindsApart g))
+    ∷ (Both, not (kindsApart (g .steps) (g .includes) (g .excludes)))
     ∷ []
 
 abbrev pub graphVerdict : Graph → Verdict
@@ -99,3 +100,24 @@ lentGraph steps people roles allows holds conditions responses includes excludes
       includes = includes;
       excludes = excludes;
     }
+
+-- ---- what the code gathers of the tables
+
+-- row i, where i is not below the count
+abbrev pub beyond : ℕ → (ℕ → ℕ) → ℕ → ℕ
+beyond count rows i = cond (ltb i count) 0 (rows i)
+
+-- what row i of one of four tables names
+abbrev pub rowsTogether : List ℕ → List ℕ → List ℕ → List ℕ → ℕ → ℕ
+rowsTogether a b c d i = union (union (row a i) (row b i)) (union (row c i) (row d i))
+
+-- what row i of both of two tables names
+abbrev pub rowsShared : List ℕ → List ℕ → ℕ → ℕ
+rowsShared a b i = meet (row a i) (row b i)
+
+-- each of four tables has at least k rows
+pub record Reach (k : ℕ) (a b c d : List ℕ) : Type 0 where
+  pub first : k ≤ length a
+  pub second : k ≤ length b
+  pub third : k ≤ length c
+  pub fourth : k ≤ length d

@@ -1,15 +1,17 @@
 -- The laws of the rules: which number is given, when a graph is as document 01 has it, and what the code's tests say of it.
 -- Assumes nothing.
-use Prim.Native.Nat.{ℕ, zero, suc, _+_, _≤_, _<_, zero-le}
-use mathlib.Core.Path.{_≡_, refl, sym, ap, ap₂, _∙_, subst, fun-ext}
+use Prim.Native.Nat.{ℕ, zero, suc, _+_, _^_, _≤_, _<_, zero-le}
+use mathlib.Core.Path.{_≡_, refl, sym, ap, ap₂, _∙_, subst}
 use mathlib.Core.List.{List, [], _∷_, _++_}
 use mathlib.Core.Bool.{Bool, true, false, not, _&&_, _||_, cond, true≢false, false≢true}
+use native.Mathlib.Nat.{lt-of-lt-of-le}
 use native.Mathlib.Omega.{arith}
+use native.Mathlib.Decide.{decLt}
 use lib.ListN.{length}
 use lib.Dec.{eqb, ltb, leb}
-use borrow.Author.Tests.{ltb-true, leb-true, lt-ltb, le-leb, lt-leb, eq-eqb, ne-eqb, eqb-true, not-true, not-false}
+use borrow.Author.Tests.{ltb-true, leb-true, lt-ltb, le-ltb, lt-leb, eq-eqb, ne-eqb, eqb-true, not-true, not-false}
 use Rattle.sets.specs.Sets.{has, single, union, meet, minus, empty, within, full, gather, every, lowest, subset}
-use Rattle.sets.specs.Laws.{empty-gather, empty-union, subset-full, and-left, and-right, and-intro, same-truth}
+use Rattle.sets.specs.Laws.{empty-gather, empty-union, within-gather, within-union, within-full, every-and, every-same, every-at, every-of, and-exchange, and-left, and-right, and-intro, same-truth}
 use Rattle.rules.specs.declared.Graph.{Graph}
 use Rattle.rules.specs.declared.Marking.{Marking}
 use Rattle.rules.specs.declared.Entry.{Entry}
@@ -19,7 +21,7 @@ use Rattle.rules.specs.declared.Move.{Move}
 use Rattle.rules.specs.declared.Ending.{Ending}
 use Rattle.rules.specs.declared.Refusal.the-variants.{Outside, Unknown}
 use Rattle.rules.specs.First.{Line, first, number, numberOf}
-use Rattle.rules.specs.Graph.{row, keeps, strayed, setsFit, kindsApart, includesOf, excludesOf, graphLines, graphVerdict, countsFit, within1to}
+use Rattle.rules.specs.Graph.{row, keeps, beyond, rowsTogether, rowsShared, rolesFit, arrowsFit, kindsApart, graphLines, graphVerdict, countsFit, within1to}
 use Rattle.rules.specs.Move.{moveOf, entryMove, theMove, theEnding, endingOf, isFinished, known, markingFits, moveLines, entryLines, markingLines, rowLines, rowOf, after, noMarking}
 
 -- ---- the first line that holds
@@ -143,51 +145,102 @@ first-lowest k (l ∷ a) h j e = go (l .1) refl (first-lowest (numberOf (l .0)) 
 
 -- ---- a graph's tables
 
-every-same : (k : ℕ) (p q : ℕ → Bool) → ((i : ℕ) → p i ≡ q i) → every k p ≡ every k q
-every-same k p q e = ap (every k) (fun-ext e)
+-- below the count nothing is gathered of what lies beyond it
+pub gather-front : (k count : ℕ) (rows : ℕ → ℕ) → k ≤ count → gather k (beyond count rows) ≡ 0
+unfolding gather
+gather-front zero count rows h = refl
+gather-front (suc k) count rows h =
+    ap₂ union (gather-front k count rows (let z : k ≤ count = omega arith in z)) (ap (λ (b : Bool). cond b 0 (rows k)) (lt-ltb k count h))
 
-full-cond : (b : Bool) (limit : ℕ) → cond b (full limit) 0 ≡ full (cond b limit 0)
-unfolding full
-full-cond true limit = refl
-full-cond false limit = refl
+-- the rows of f below the count are within the limit, and the others, up to the room's end, empty
+kept : ℕ → ℕ → ℕ → (ℕ → ℕ) → Bool
+kept room count limit f = every room (λ i. within (cond (ltb i count) limit 0) (f i))
 
--- nothing strays exactly if the table keeps to its counts
-pub keeps-strays : (count limit : ℕ) (table : List ℕ) → empty (gather (length table) (strayed table count (full limit))) ≡ keeps count limit table
-unfolding keeps
-keeps-strays count limit table =
-    empty-gather (length table) (strayed table count (full limit))
-    ∙ every-same (length table) (λ i. empty (strayed table count (full limit) i)) (λ i. within (cond (ltb i count) limit 0) (row table i))
-    (λ i. ap (λ (x : ℕ). empty (minus (row table i) x)) (full-cond (ltb i count) limit) ∙ subset-full (cond (ltb i count) limit 0) (row table i))
-
--- nothing strays in the six tables together exactly if nothing does in each
-pub sets-fit-sum : (g : Graph) (named inside a b c d e f : ℕ) → named ≡ full (g .roles) → inside ≡ full (g .steps)
-    → a ≡ gather (length (g .allows)) (strayed (g .allows) (g .steps) named)
-    → b ≡ gather (length (g .holds)) (strayed (g .holds) (g .people) named)
-    → c ≡ gather (length (g .conditions)) (strayed (g .conditions) (g .steps) inside)
-    → d ≡ gather (length (g .responses)) (strayed (g .responses) (g .steps) inside)
-    → e ≡ gather (length (g .includes)) (strayed (g .includes) (g .steps) inside)
-    → f ≡ gather (length (g .excludes)) (strayed (g .excludes) (g .steps) inside)
-    → empty (union (union (union (union (union a b) c) d) e) f) ≡ setsFit g
-unfolding setsFit
-sets-fit-sum g named inside a b c d e f pn pi pa pb pc pd pe pf =
-    empty-union (union (union (union (union a b) c) d) e) f
-    ∙ ap₂ _&&_ (empty-union (union (union (union a b) c) d) e
-    ∙ ap₂ _&&_ (empty-union (union (union a b) c) d
-    ∙ ap₂ _&&_ (empty-union (union a b) c
-    ∙ ap₂ _&&_ (empty-union a b
-    ∙ ap₂ _&&_ (table (g .steps) (g .roles) (g .allows) a named pn pa) (table (g .people) (g .roles) (g .holds) b named pn pb))
-    (table (g .steps) (g .steps) (g .conditions) c inside pi pc))
-    (table (g .steps) (g .steps) (g .responses) d inside pi pd))
-    (table (g .steps) (g .steps) (g .includes) e inside pi pe))
-    (table (g .steps) (g .steps) (g .excludes) f inside pi pf)
+-- what is gathered below and beyond the count tells whether the rows are kept
+gathered-kept : (room count limit : ℕ) (f : ℕ → ℕ) → count ≤ room
+    → (within limit (gather count f) && empty (gather room (beyond count f))) ≡ kept room count limit f
+unfolding kept
+gathered-kept room count limit f h =
+    ap₂ _&&_ (within-gather limit count f) (empty-gather room (beyond count f))
+    ∙ same-truth (every count low && every room high) (every room both)
+    (λ e. every-of room both (λ i l. join i l (decLt i count) (every-at count low (and-left (every count low) (every room high) e) i) (every-at room high (and-right (every count low) (every room high) e) i l)))
+    (λ e. and-intro
+    (every-of count low (λ i l. subst (λ (b : Bool). within (cond b limit 0) (f i) ≡ true) (lt-ltb i count l) (every-at room both e i (lt-of-lt-of-le l h))))
+    (every-of room high (λ i l. part i (decLt i count) (every-at room both e i l))))
   where
-    table : (count limit : ℕ) (rows : List ℕ) (x all : ℕ) → all ≡ full limit → x ≡ gather (length rows) (strayed rows count all) → empty x ≡ keeps count limit rows
-    table count limit rows x all p q = ap empty (q ∙ ap (λ (y : ℕ). gather (length rows) (strayed rows count y)) p) ∙ keeps-strays count limit rows
+    low : ℕ → Bool
+    low i = within limit (f i)
 
--- nothing is in common exactly if no pair is both include and exclude
-pub apart-overlap : (g : Graph) → empty (gather 64 (λ i. meet (includesOf g i) (excludesOf g i))) ≡ kindsApart g
-unfolding kindsApart
-apart-overlap g = empty-gather 64 (λ i. meet (includesOf g i) (excludesOf g i))
+    high : ℕ → Bool
+    high i = empty (beyond count f i)
+
+    both : ℕ → Bool
+    both i = within (cond (ltb i count) limit 0) (f i)
+
+    none : (x : ℕ) → empty x ≡ true → within 0 x ≡ true
+    none x e = lt-ltb x 1 (let z : x ≡ 0 = eqb-true x 0 e in omega arith)
+
+    join : (i : ℕ) → i < room → Dec (i < count) → (i < count → within limit (f i) ≡ true) → empty (cond (ltb i count) 0 (f i)) ≡ true → within (cond (ltb i count) limit 0) (f i) ≡ true
+    join i l (yes k) w e = subst (λ (b : Bool). within (cond b limit 0) (f i) ≡ true) (sym (lt-ltb i count k)) (w k)
+    join i l (no k) w e =
+        let off : ltb i count ≡ false = le-ltb i count (let z : count ≤ i = omega arith in z) in
+        subst (λ (b : Bool). within (cond b limit 0) (f i) ≡ true) (sym off) (none (f i) (subst (λ (b : Bool). empty (cond b 0 (f i)) ≡ true) off e))
+
+    part : (i : ℕ) → Dec (i < count) → within (cond (ltb i count) limit 0) (f i) ≡ true → empty (cond (ltb i count) 0 (f i)) ≡ true
+    part i (yes k) e = subst (λ (b : Bool). empty (cond b 0 (f i)) ≡ true) (sym (lt-ltb i count k)) refl
+    part i (no k) e =
+        let off : ltb i count ≡ false = le-ltb i count (let z : count ≤ i = omega arith in z) in
+        let small : f i < 1 = ltb-true (f i) 1 (subst (λ (b : Bool). within (cond b limit 0) (f i) ≡ true) off e) in
+        subst (λ (b : Bool). empty (cond b 0 (f i)) ≡ true) (sym off) (eq-eqb (f i) 0 (omega arith))
+
+-- two tables are kept together exactly if each is
+kept-union : (room count limit : ℕ) (f g : ℕ → ℕ) → kept room count limit (λ i. union (f i) (g i)) ≡ (kept room count limit f && kept room count limit g)
+unfolding kept
+kept-union room count limit f g =
+    every-same room (λ i. within (bound i) (union (f i) (g i))) (λ i. within (bound i) (f i) && within (bound i) (g i)) (λ i. within-union (bound i) (f i) (g i))
+    ∙ every-and room (λ i. within (bound i) (f i)) (λ i. within (bound i) (g i))
+  where
+    bound : ℕ → ℕ
+    bound i = cond (ltb i count) limit 0
+
+-- one table, by its own length
+pub table-keeps : (count limit : ℕ) (table : List ℕ) (a x : ℕ) → count ≤ length table
+    → a ≡ gather count (row table) → x ≡ gather (length table) (beyond count (row table))
+    → (within limit a && empty x) ≡ keeps count limit table
+unfolding keeps kept
+table-keeps count limit table a x h pa px =
+    ap₂ _&&_ (ap (within limit) pa) (ap empty px) ∙ gathered-kept (length table) count limit (row table) h
+
+-- the two tables of roles
+pub roles-keep : (steps people roles : ℕ) (allows holds : List ℕ) (named a b x y : ℕ) → named ≡ full roles
+    → steps ≤ length allows → people ≤ length holds
+    → a ≡ gather steps (row allows) → b ≡ gather people (row holds)
+    → x ≡ gather (length allows) (beyond steps (row allows)) → y ≡ gather (length holds) (beyond people (row holds))
+    → (leb (union a b) named && empty (union x y)) ≡ rolesFit steps people roles allows holds
+roles-keep steps people roles allows holds named a b x y n ha hb pa pb px py =
+    ap₂ _&&_ (ap (leb (union a b)) n ∙ within-full roles (union a b) ∙ within-union roles a b) (empty-union x y)
+    ∙ and-exchange (within roles a) (within roles b) (empty x) (empty y)
+    ∙ ap₂ _&&_ (table-keeps steps roles allows a x ha pa px) (table-keeps people roles holds b y hb pb py)
+
+-- a table of 64 rows
+keeps-64 : (k : ℕ) (t : List ℕ) → length t ≡ 64 → kept 64 k k (row t) ≡ keeps k k t
+unfolding keeps kept
+keeps-64 k t e = ap (λ (room : ℕ). every room (λ i. within (cond (ltb i k) k 0) (row t i))) (sym e)
+
+-- the four tables of arrows, in one pass
+pub arrows-keep : (k : ℕ) (r s t u : List ℕ) (inside all past : ℕ) → inside ≡ full k → k ≤ 64
+    → length r ≡ 64 → length s ≡ 64 → length t ≡ 64 → length u ≡ 64
+    → all ≡ gather k (rowsTogether r s t u) → past ≡ gather 64 (beyond k (rowsTogether r s t u))
+    → (leb all inside && empty past) ≡ arrowsFit k r s t u
+arrows-keep k r s t u inside all past n h lr ls lt lu pa pp =
+    ap₂ _&&_ (ap (leb all) n ∙ within-full k all ∙ ap (within k) pa) (ap empty pp)
+    ∙ gathered-kept 64 k k (rowsTogether r s t u) h
+    ∙ kept-union 64 k k (λ i. union (row r i) (row s i)) (λ i. union (row t i) (row u i))
+    ∙ ap₂ _&&_ (kept-union 64 k k (row r) (row s) ∙ ap₂ _&&_ (keeps-64 k r lr) (keeps-64 k s ls)) (kept-union 64 k k (row t) (row u) ∙ ap₂ _&&_ (keeps-64 k t lt) (keeps-64 k u lu))
+
+-- nothing is shared exactly if no pair is both include and exclude
+pub shared-apart : (k : ℕ) (t u : List ℕ) (both : ℕ) → both ≡ gather k (rowsShared t u) → empty both ≡ kindsApart k t u
+shared-apart k t u both e = ap empty e ∙ empty-gather k (rowsShared t u)
 
 -- counts that fit are within their bounds
 pub record Counted (steps people roles : ℕ) : Type 0 where

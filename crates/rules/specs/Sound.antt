@@ -46,32 +46,32 @@ pub record Sound (g : Graph) : Type 0 where
   pub responses-in : (s : ℕ) → responsesOf g s < 2 ^ (g .steps)
   pub includes-in : (s : ℕ) → includesOf g s < 2 ^ (g .steps)
   pub excludes-in : (s : ℕ) → excludesOf g s < 2 ^ (g .steps)
-  pub apart : (a : ℕ) → a < 64 → empty (meet (includesOf g a) (excludesOf g a)) ≡ true
+  pub apart : (a : ℕ) → a < g .steps → empty (meet (includesOf g a) (excludesOf g a)) ≡ true
 
 pub clear-sound : (g : Graph) → graphVerdict g ≡ Verdict.Clear → Sound g
-unfolding setsFit kindsApart
+unfolding setsFit
 clear-sound g e =
     let fit : setsFit g ≡ true = not-false (setsFit g) (clear-head _ _ (clear-tail _ _ e)) in
-    let alone : kindsApart g ≡ true = not-false (kindsApart g) (clear-head _ _ (clear-tail _ _ (clear-tail _ _ e))) in
+    let alone : kindsApart (g .steps) (g .includes) (g .excludes) ≡ true = not-false (kindsApart (g .steps) (g .includes) (g .excludes)) (clear-head _ _ (clear-tail _ _ (clear-tail _ _ e))) in
     let a = keeps (g .steps) (g .roles) (g .allows) in
     let h = keeps (g .people) (g .roles) (g .holds) in
     let c = keeps (g .steps) (g .steps) (g .conditions) in
     let r = keeps (g .steps) (g .steps) (g .responses) in
     let i = keeps (g .steps) (g .steps) (g .includes) in
     let x = keeps (g .steps) (g .steps) (g .excludes) in
-    let five : (a && h && c && r && i) ≡ true = and-left (a && h && c && r && i) x fit in
-    let four : (a && h && c && r) ≡ true = and-left (a && h && c && r) i five in
-    let three : (a && h && c) ≡ true = and-left (a && h && c) r four in
-    let two : (a && h) ≡ true = and-left (a && h) c three in
+    let roles : (a && h) ≡ true = and-left (a && h) ((c && r) && (i && x)) fit in
+    let arrows : ((c && r) && (i && x)) ≡ true = and-right (a && h) ((c && r) && (i && x)) fit in
+    let firsts : (c && r) ≡ true = and-left (c && r) (i && x) arrows in
+    let lasts : (i && x) ≡ true = and-right (c && r) (i && x) arrows in
     record {
       counted = clear-counts g e;
-      rolesOf-in = keeps-row (g .steps) (g .roles) (g .allows) (and-left a h two);
-      rolesHeld-in = keeps-row (g .people) (g .roles) (g .holds) (and-right a h two);
-      conditions-in = keeps-row (g .steps) (g .steps) (g .conditions) (and-right (a && h) c three);
-      responses-in = keeps-row (g .steps) (g .steps) (g .responses) (and-right (a && h && c) r four);
-      includes-in = keeps-row (g .steps) (g .steps) (g .includes) (and-right (a && h && c && r) i five);
-      excludes-in = keeps-row (g .steps) (g .steps) (g .excludes) (and-right (a && h && c && r && i) x fit);
-      apart = every-at 64 (λ k. empty (meet (includesOf g k) (excludesOf g k))) alone;
+      rolesOf-in = keeps-row (g .steps) (g .roles) (g .allows) (and-left a h roles);
+      rolesHeld-in = keeps-row (g .people) (g .roles) (g .holds) (and-right a h roles);
+      conditions-in = keeps-row (g .steps) (g .steps) (g .conditions) (and-left c r firsts);
+      responses-in = keeps-row (g .steps) (g .steps) (g .responses) (and-right c r firsts);
+      includes-in = keeps-row (g .steps) (g .steps) (g .includes) (and-left i x lasts);
+      excludes-in = keeps-row (g .steps) (g .steps) (g .excludes) (and-right i x lasts);
+      apart = every-at (g .steps) (λ k. empty (meet (includesOf g k) (excludesOf g k))) alone;
     }
 
 -- ---- markings within the graph

@@ -1,11 +1,9 @@
 // The same calls over a graph that is lent, table by table, so that no graph is copied.
 ghost use mathlib.Core.Path.{_≡_};
 ghost use Prim.Native.Nat.{ℕ, _<_, _≤_};
-ghost use mathlib.Core.Bool.{cond};
-ghost use lib.Dec.{ltb};
 ghost use lib.ListN.{length};
-ghost use Rattle.sets.specs.Sets.{minus, meet, gather};
-ghost use Rattle.rules.specs.Graph.{row, strayed, countsFit, setsFit, lentGraph, graphVerdict};
+ghost use Rattle.sets.specs.Sets.{gather};
+ghost use Rattle.rules.specs.Graph.{row, beyond, rowsTogether, rowsShared, Reach, countsFit, rolesFit, arrowsFit, kindsApart, lentGraph, graphVerdict};
 ghost use Rattle.rules.specs.Move.{theMove, theEnding, entryMove, rowOf};
 ghost use Rattle.rules.specs.First.{first};
 use crate::Ending;
@@ -24,45 +22,85 @@ const NONE: Marking = Marking {
     included: 0,
 };
 
-// What row i holds that it may not: beyond `inside`, or anything where i is not below count.
-fn stray(i: usize, count: usize, inside: u64, x: u64) -> u64
-    ensures { λ r. ⌜ r ≡ minus x (cond (ltb i count) inside 0) ⌝ }
-{
-    if i < count { x ^ (x & inside) } else { x }
+// What the tables of arrows name, and what some step both includes and excludes.
+struct Seen {
+    all: u64,
+    both: u64,
 }
 
-fn strays(table: &[u64], count: usize, inside: u64) -> u64
-    ensures { λ r. ⌜ r ≡ gather (length (now (table .entry))) (strayed (now (table .entry)) count inside) ⌝ }
+struct Arrows {
+    fit: bool,
+    apart: bool,
+}
+
+// The roles that the first `count` rows name.
+fn roles_named(table: &[u16], count: usize) -> u16
+    requires { ⌜ (count ≤ 64) × (count ≤ length (now table)) ⌝ }
+    ensures { λ r. ⌜ r ≡ gather count (row (now (table .entry))) ⌝ }
 {
     let mut found = 0;
     let mut i = 0;
-    while i < table.len() {
-        found = found | stray(i, count, inside, table[i]);
+    while i < count {
+        found = found | table[i];
         i += 1;
     }
     found
 }
 
-fn stray_roles(table: &[u16], count: usize, inside: u64) -> u64
-    ensures { λ r. ⌜ r ≡ gather (length (now (table .entry))) (strayed (now (table .entry)) count inside) ⌝ }
+// The roles that the rows from `count` on name.
+fn roles_beyond(table: &[u16], count: usize) -> u16
+    requires { ⌜ (count ≤ 64) × (count ≤ length (now table)) ⌝ }
+    ensures { λ r. ⌜ r ≡ gather (length (now (table .entry))) (beyond count (row (now (table .entry)))) ⌝ }
 {
     let mut found = 0;
-    let mut i = 0;
+    let mut i = count;
     while i < table.len() {
-        found = found | stray(i, count, inside, table[i] as u64);
+        found = found | table[i];
         i += 1;
     }
     found
 }
 
-// The steps that some step both includes and excludes.
-fn overlap<'a>(includes: &'a [u64; 64], excludes: &'a [u64; 64]) -> u64
-    ensures { λ r. ⌜ r ≡ gather 64 (λ i. meet (row (now (includes .entry)) i) (row (now (excludes .entry)) i)) ⌝ }
+// The first `count` rows of the four tables, in one pass.
+fn arrows_named<'a>(
+    conditions: &'a [u64],
+    responses: &'a [u64],
+    includes: &'a [u64],
+    excludes: &'a [u64],
+    count: usize,
+) -> Seen
+    requires { ⌜ (count ≤ 64) × Reach count (now conditions) (now responses) (now includes) (now excludes) ⌝ }
+    ensures { λ r. ⌜ r .all ≡ gather count (rowsTogether (now (conditions .entry)) (now (responses .entry)) (now (includes .entry)) (now (excludes .entry))) ⌝ }
+    ensures { λ r. ⌜ r .both ≡ gather count (rowsShared (now (includes .entry)) (now (excludes .entry))) ⌝ }
+{
+    let mut all = 0;
+    let mut both = 0;
+    let mut i = 0;
+    while i < count {
+        let gain = includes[i];
+        let lose = excludes[i];
+        all = all | ((conditions[i] | responses[i]) | (gain | lose));
+        both = both | (gain & lose);
+        i += 1;
+    }
+    Seen { all, both }
+}
+
+// The steps that the rows from `count` on name.
+fn arrows_beyond<'a>(
+    conditions: &'a [u64],
+    responses: &'a [u64],
+    includes: &'a [u64],
+    excludes: &'a [u64],
+    count: usize,
+) -> u64
+    requires { ⌜ (count ≤ 64) × Reach 64 (now conditions) (now responses) (now includes) (now excludes) ⌝ }
+    ensures { λ r. ⌜ r ≡ gather 64 (beyond count (rowsTogether (now (conditions .entry)) (now (responses .entry)) (now (includes .entry)) (now (excludes .entry)))) ⌝ }
 {
     let mut found = 0;
-    let mut i = 0;
+    let mut i = count;
     while i < 64 {
-        found = found | (includes[i] & excludes[i]);
+        found = found | ((conditions[i] | responses[i]) | (includes[i] | excludes[i]));
         i += 1;
     }
     found
@@ -76,32 +114,71 @@ fn counts_fit(steps: u8, people: u8, roles: u8) -> bool
         & ((1 <= roles) & (roles <= 16))
 }
 
-// Does each set name only what there is, with nothing stored beyond the counts?
-fn sets_fit<'a>(
+fn roles_fit<'a>(
     steps: u8,
     people: u8,
     roles: u8,
     allows: &'a [u16; 64],
     holds: &'a [u16; 16],
+) -> bool
+    requires { ⌜ (steps ≤ 64) × (people ≤ 16) × (roles ≤ 16) ⌝ }
+    ensures { λ r. ⌜ r ≡ rolesFit steps people roles (now (allows .entry)) (now (holds .entry)) ⌝ }
+{
+    let n = steps as usize;
+    let p = people as usize;
+    let a = roles_named(allows, n);
+    let b = roles_named(holds, p);
+    let x = roles_beyond(allows, n);
+    let y = roles_beyond(holds, p);
+    (((a as u64) | (b as u64)) <= sets::full(roles)) & (x | y == 0)
+}
+
+fn arrows_checked<'a>(
+    steps: u8,
     conditions: &'a [u64; 64],
     responses: &'a [u64; 64],
     includes: &'a [u64; 64],
     excludes: &'a [u64; 64],
-) -> bool
-    requires { ⌜ (steps ≤ 64) × (roles ≤ 64) ⌝ }
-    ensures { λ r. ⌜ r ≡ setsFit (lentGraph steps people roles (now (allows .entry)) (now (holds .entry)) (now (conditions .entry)) (now (responses .entry)) (now (includes .entry)) (now (excludes .entry))) ⌝ }
+) -> Arrows
+    requires { ⌜ steps ≤ 64 ⌝ }
+    ensures { λ r. ⌜ r .fit ≡ arrowsFit steps (now (conditions .entry)) (now (responses .entry)) (now (includes .entry)) (now (excludes .entry)) ⌝ }
+    ensures { λ r. ⌜ r .apart ≡ kindsApart steps (now (includes .entry)) (now (excludes .entry)) ⌝ }
 {
-    let inside = sets::full(steps);
-    let named = sets::full(roles);
     let n = steps as usize;
-    let p = people as usize;
-    let a = stray_roles(allows, n, named);
-    let b = a | stray_roles(holds, p, named);
-    let c = b | strays(conditions, n, inside);
-    let d = c | strays(responses, n, inside);
-    let e = d | strays(includes, n, inside);
-    let f = e | strays(excludes, n, inside);
-    f == 0
+    let seen = arrows_named(conditions, responses, includes, excludes, n);
+    let past = arrows_beyond(conditions, responses, includes, excludes, n);
+    Arrows {
+        fit: (seen.all <= sets::full(steps)) & (past == 0),
+        apart: seen.both == 0,
+    }
+}
+
+// Refusals 2, 4, 6. The parameters stand last to first: a caller that was itself handed the tables on its stack then hands them on in
+// registers, which is measurably quicker than copying them from stack to stack.
+fn verdict<'a>(
+    excludes: &'a [u64; 64],
+    includes: &'a [u64; 64],
+    responses: &'a [u64; 64],
+    conditions: &'a [u64; 64],
+    holds: &'a [u16; 16],
+    allows: &'a [u16; 64],
+    steps: u8,
+    people: u8,
+    roles: u8,
+) -> Verdict
+    ensures { λ r. ⌜ r ≡ graphVerdict (lentGraph steps people roles (now (allows .entry)) (now (holds .entry)) (now (conditions .entry)) (now (responses .entry)) (now (includes .entry)) (now (excludes .entry))) ⌝ }
+{
+    if !counts_fit(steps, people, roles) {
+        return Verdict::Refused(Refusal::Counts);
+    }
+    let arrows = arrows_checked(steps, conditions, responses, includes, excludes);
+    if !(roles_fit(steps, people, roles, allows, holds) & arrows.fit) {
+        return Verdict::Refused(Refusal::Beyond);
+    }
+    if !arrows.apart {
+        return Verdict::Refused(Refusal::Both);
+    }
+    Verdict::Clear
 }
 
 // Refusals 2, 4, 6.
@@ -118,26 +195,17 @@ pub fn check<'a>(
 ) -> Verdict
     ensures { λ r. ⌜ r ≡ graphVerdict (lentGraph steps people roles (now (allows .entry)) (now (holds .entry)) (now (conditions .entry)) (now (responses .entry)) (now (includes .entry)) (now (excludes .entry))) ⌝ }
 {
-    if !counts_fit(steps, people, roles) {
-        return Verdict::Refused(Refusal::Counts);
-    }
-    if !sets_fit(
+    verdict(
+        excludes,
+        includes,
+        responses,
+        conditions,
+        holds,
+        allows,
         steps,
         people,
         roles,
-        allows,
-        holds,
-        conditions,
-        responses,
-        includes,
-        excludes,
-    ) {
-        return Verdict::Refused(Refusal::Beyond);
-    }
-    if overlap(includes, excludes) != 0 {
-        return Verdict::Refused(Refusal::Both);
-    }
-    Verdict::Clear
+    )
 }
 
 // What an entry of person p and step s meets of the graph.
@@ -233,16 +301,16 @@ pub fn take<'a>(
 ) -> Move
     ensures { λ r. ⌜ r ≡ theMove (lentGraph steps people roles (now (allows .entry)) (now (holds .entry)) (now (conditions .entry)) (now (responses .entry)) (now (includes .entry)) (now (excludes .entry))) m e ⌝ }
 {
-    let v = check(
+    let v = verdict(
+        excludes,
+        includes,
+        responses,
+        conditions,
+        holds,
+        allows,
         steps,
         people,
         roles,
-        allows,
-        holds,
-        conditions,
-        responses,
-        includes,
-        excludes,
     );
     if let Verdict::Refused(r) = v {
         return Move::Refused(r, NONE);
@@ -280,16 +348,16 @@ pub fn finished<'a>(
 ) -> Ending
     ensures { λ r. ⌜ r ≡ theEnding (lentGraph steps people roles (now (allows .entry)) (now (holds .entry)) (now (conditions .entry)) (now (responses .entry)) (now (includes .entry)) (now (excludes .entry))) m ⌝ }
 {
-    let v = check(
+    let v = verdict(
+        excludes,
+        includes,
+        responses,
+        conditions,
+        holds,
+        allows,
         steps,
         people,
         roles,
-        allows,
-        holds,
-        conditions,
-        responses,
-        includes,
-        excludes,
     );
     if let Verdict::Refused(r) = v {
         return Ending::Refused(r);

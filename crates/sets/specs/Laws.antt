@@ -5,7 +5,7 @@ use native.Mathlib.Nat.{not-suc-le-zero, mod-lt, div-one, div-add-mod', div-div-
 use native.Mathlib.Numerals.{add-one}
 use native.Mathlib.Omega.{arith}
 use native.Mathlib.Decide.{decLt, decLe}
-use mathlib.Core.Path.{_≡_, refl, sym, ap, ap₂, _∙_, subst}
+use mathlib.Core.Path.{_≡_, refl, sym, ap, ap₂, _∙_, subst, fun-ext}
 use mathlib.Core.Logic.{_⊎_, ⊎-elim, _↔_}
 use mathlib.Core.Bool.{Bool, true, false, not, _&&_, _||_, cond, true≢false, false≢true}
 use lib.Dec.{T, eqb, ltb, leb, eqb·zero-suc, eqb·suc-zero, eqb·suc-suc, leb·suc-suc, lit<}
@@ -34,6 +34,12 @@ and-left false q e = e
 pub and-right : (p q : Bool) → (p && q) ≡ true → q ≡ true
 and-right true q e = e
 and-right false q e = absurd (false≢true e)
+
+pub and-exchange : (a b c d : Bool) → ((a && b) && (c && d)) ≡ ((a && c) && (b && d))
+and-exchange true true c d = refl
+and-exchange true false true d = refl
+and-exchange true false false d = refl
+and-exchange false b c d = refl
 
 -- ---- digits
 
@@ -234,6 +240,14 @@ empty-union a b =
     (λ e. eq-eqb (union a b) 0
     (ap₂ union (eqb-true a 0 (and-left (empty a) (empty b) e)) (eqb-true b 0 (and-right (empty a) (empty b) e))))
 
+pub within-union : (n a b : ℕ) → within n (union a b) ≡ (within n a && within n b)
+within-union n a b =
+    same-truth (within n (union a b)) (within n a && within n b)
+    (λ e. let h : union a b < 2 ^ n = ltb-true (union a b) (2 ^ n) e in
+    and-intro (lt-ltb a (2 ^ n) (lt-of-le-of-lt (union-le-left a b) h)) (lt-ltb b (2 ^ n) (lt-of-le-of-lt (union-le-right a b) h)))
+    (λ e. lt-ltb (union a b) (2 ^ n)
+    (union-lt n a b (ltb-true a (2 ^ n) (and-left (within n a) (within n b) e)) (ltb-true b (2 ^ n) (and-right (within n a) (within n b) e))))
+
 pub minus-zero : (x : ℕ) → minus x 0 ≡ x
 minus-zero x = ap (bitXor x) (and-zero-r x) ∙ xor-zero-r x
 
@@ -376,6 +390,12 @@ unfolding gather every
 empty-gather zero f = refl
 empty-gather (suc k) f = empty-union (gather k f) (f k) ∙ ap (λ (b : Bool). b && empty (f k)) (empty-gather k f)
 
+-- what is gathered is within n exactly if each of the sets is
+pub within-gather : (n k : ℕ) (f : ℕ → ℕ) → within n (gather k f) ≡ every k (λ i. within n (f i))
+unfolding gather every
+within-gather n zero f = lt-ltb 0 (2 ^ n) (pow-pos n)
+within-gather n (suc k) f = within-union n (gather k f) (f k) ∙ ap (λ (b : Bool). b && within n (f k)) (within-gather n k f)
+
 -- the next set of the range
 pub gather-more : (k : ℕ) (f : ℕ → ℕ) → gather (k + 1) f ≡ union (gather k f) (f k)
 unfolding gather
@@ -395,3 +415,12 @@ pub every-of : (k : ℕ) (p : ℕ → Bool) → ((i : ℕ) → i < k → p i ≡
 unfolding every
 every-of zero p all = refl
 every-of (suc k) p all = and-intro (every-of k p (λ i h. all i (let z : i < suc k = omega arith in z))) (all k (le-refl (suc k)))
+
+pub every-same : (k : ℕ) (p q : ℕ → Bool) → ((i : ℕ) → p i ≡ q i) → every k p ≡ every k q
+every-same k p q e = ap (every k) (fun-ext e)
+
+-- two tests over a range hold together exactly if each does
+pub every-and : (k : ℕ) (p q : ℕ → Bool) → every k (λ i. p i && q i) ≡ (every k p && every k q)
+unfolding every
+every-and zero p q = refl
+every-and (suc k) p q = ap (λ (b : Bool). b && (p k && q k)) (every-and k p q) ∙ and-exchange (every k p) (every k q) (p k) (q k)

@@ -13,8 +13,8 @@ use Rattle.rules.specs.Laws.{Counted, clear-counts, ending-refused, endi
 use Rattle.rules.proofs.lent.finished.Statement.{statement}
 use Rattle.rules.proofs.lent.finished.Tie as tie
 
-check-requires : tie.Need-check-requires
-check-requires c κs = search needs
+verdict-requires : tie.Need-verdict-requires
+verdict-requires c κs = search needs
 
 enum-known-v : tie.Need-enum-known-v
 enum-known-v c = search needs
@@ -23,7 +23,7 @@ returns : tie.Need-returns
 returns c =
     let a = c .before .before .before .before .args in
     let g : Graph = lentGraph (a .steps) (a .people) (a .roles) (a .allows .now) (a .holds .now) (a .conditions .now) (a .responses .now) (a .includes .now) (a .excludes .now) in
-    sym (ending-refused g (a .m) _ (sym (c .before .before .before .check .ensures) ∙ c .before .v .given .1))
+    sym (ending-refused g (a .m) _ (sym (c .before .before .before .verdict .ensures) ∙ c .before .v .given .1))
 
 enum-told : tie.Need-enum-told
 enum-told c = search needs
@@ -32,7 +32,7 @@ fits-requires : tie.Need-fits-requires
 fits-requires c κs =
     let a = c .before .before .before .args in
     let g : Graph = lentGraph (a .steps) (a .people) (a .roles) (a .allows .now) (a .holds .now) (a .conditions .now) (a .responses .now) (a .includes .now) (a .excludes .now) in
-    let clear : graphVerdict g ≡ Verdict.Clear = sym (c .before .before .check .ensures) ∙ c .enum-told .given .1 in
+    let clear : graphVerdict g ≡ Verdict.Clear = sym (c .before .before .verdict .ensures) ∙ c .enum-told .given .1 in
     let b : Counted (a .steps) (a .people) (a .roles) = clear-counts g clear in
     omega arith
 
@@ -40,7 +40,7 @@ returns-2 : tie.Need-returns-2
 returns-2 c =
     let a = c .before .before .before .before .before .args in
     let g : Graph = lentGraph (a .steps) (a .people) (a .roles) (a .allows .now) (a .holds .now) (a .conditions .now) (a .responses .now) (a .includes .now) (a .excludes .now) in
-    let clear : graphVerdict g ≡ Verdict.Clear = sym (c .before .before .before .before .check .ensures) ∙ c .before .before .enum-told .given .1 in
+    let clear : graphVerdict g ≡ Verdict.Clear = sym (c .before .before .before .before .verdict .ensures) ∙ c .before .before .enum-told .given .1 in
     let out : markingFits (a .steps) (a .m) ≡ false = sym (c .before .fits2 .ensures) ∙ not-true _ (c .if1 .taken) in
     sym (ending-outside g (a .m) clear out)
 
@@ -48,7 +48,7 @@ returns-3 : tie.Need-returns-3
 returns-3 c =
     let a = c .before .before .before .before .before .before .before .args in
     let g : Graph = lentGraph (a .steps) (a .people) (a .roles) (a .allows .now) (a .holds .now) (a .conditions .now) (a .responses .now) (a .includes .now) (a .excludes .now) in
-    let clear : graphVerdict g ≡ Verdict.Clear = sym (c .before .before .before .before .before .before .check .ensures) ∙ c .before .before .before .before .enum-told .given .1 in
+    let clear : graphVerdict g ≡ Verdict.Clear = sym (c .before .before .before .before .before .before .verdict .ensures) ∙ c .before .before .before .before .enum-told .given .1 in
     let within : markingFits (a .steps) (a .m) ≡ true = sym (c .before .before .before .fits2 .ensures) ∙ not-false _ (c .before .before .if1 .left) in
     sym (ending-inside g (a .m) clear within ∙ ap (λ (b : Bool). cond b Ending.Finished Ending.Open) (eq-eqb _ 0 (c .if2 .taken)))
 
@@ -56,7 +56,7 @@ returns-4 : tie.Need-returns-4
 returns-4 c =
     let a = c .before .before .before .before .before .before .before .args in
     let g : Graph = lentGraph (a .steps) (a .people) (a .roles) (a .allows .now) (a .holds .now) (a .conditions .now) (a .responses .now) (a .includes .now) (a .excludes .now) in
-    let clear : graphVerdict g ≡ Verdict.Clear = sym (c .before .before .before .before .before .before .check .ensures) ∙ c .before .before .before .before .enum-told .given .1 in
+    let clear : graphVerdict g ≡ Verdict.Clear = sym (c .before .before .before .before .before .before .verdict .ensures) ∙ c .before .before .before .before .enum-told .given .1 in
     let within : markingFits (a .steps) (a .m) ≡ true = sym (c .before .before .before .fits2 .ensures) ∙ not-false _ (c .before .before .if1 .left) in
     sym (ending-inside g (a .m) clear within ∙ ap (λ (b : Bool). cond b Ending.Finished Ending.Open) (ne-eqb _ 0 (c .if2 .left)))
 
@@ -64,7 +64,7 @@ pub finished-spec : {M : Type 1} → statement M
 finished-spec =
     tie.close
     (tie.spec
-    check-requires
+    verdict-requires
     enum-known-v
     returns
     enum-told

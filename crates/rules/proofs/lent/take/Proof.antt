@@ -12,8 +12,8 @@ use Rattle.rules.specs.Laws.{Counted, clear-counts, move-refused, move-o
 use Rattle.rules.proofs.lent.take.Statement.{statement}
 use Rattle.rules.proofs.lent.take.Tie as tie
 
-check-requires : tie.Need-check-requires
-check-requires c κs = search needs
+verdict-requires : tie.Need-verdict-requires
+verdict-requires c κs = search needs
 
 enum-known-v : tie.Need-enum-known-v
 enum-known-v c = search needs
@@ -22,7 +22,7 @@ returns : tie.Need-returns
 returns c =
     let a = c .before .before .before .before .args in
     let g : Graph = lentGraph (a .steps) (a .people) (a .roles) (a .allows .now) (a .holds .now) (a .conditions .now) (a .responses .now) (a .includes .now) (a .excludes .now) in
-    sym (move-refused g (a .m) (a .e) _ (sym (c .before .before .before .check .ensures) ∙ c .before .v .given .1))
+    sym (move-refused g (a .m) (a .e) _ (sym (c .before .before .before .verdict .ensures) ∙ c .before .v .given .1))
 
 enum-told : tie.Need-enum-told
 enum-told c = search needs
@@ -31,7 +31,7 @@ fits-requires : tie.Need-fits-requires
 fits-requires c κs =
     let a = c .before .before .before .args in
     let g : Graph = lentGraph (a .steps) (a .people) (a .roles) (a .allows .now) (a .holds .now) (a .conditions .now) (a .responses .now) (a .includes .now) (a .excludes .now) in
-    let clear : graphVerdict g ≡ Verdict.Clear = sym (c .before .before .check .ensures) ∙ c .enum-told .given .1 in
+    let clear : graphVerdict g ≡ Verdict.Clear = sym (c .before .before .verdict .ensures) ∙ c .enum-told .given .1 in
     let b : Counted (a .steps) (a .people) (a .roles) = clear-counts g clear in
     omega arith
 
@@ -39,7 +39,7 @@ returns-2 : tie.Need-returns-2
 returns-2 c =
     let a = c .before .before .before .before .before .args in
     let g : Graph = lentGraph (a .steps) (a .people) (a .roles) (a .allows .now) (a .holds .now) (a .conditions .now) (a .responses .now) (a .includes .now) (a .excludes .now) in
-    let clear : graphVerdict g ≡ Verdict.Clear = sym (c .before .before .before .before .check .ensures) ∙ c .before .before .enum-told .given .1 in
+    let clear : graphVerdict g ≡ Verdict.Clear = sym (c .before .before .before .before .verdict .ensures) ∙ c .before .before .enum-told .given .1 in
     let out : markingFits (a .steps) (a .m) ≡ false = sym (c .before .fits2 .ensures) ∙ not-true _ (c .if1 .taken) in
     sym (move-outside g (a .m) (a .e) clear out)
 
@@ -47,7 +47,7 @@ enter-requires : tie.Need-enter-requires
 enter-requires c κs =
     let a = c .before .before .before .before .before .args in
     let g : Graph = lentGraph (a .steps) (a .people) (a .roles) (a .allows .now) (a .holds .now) (a .conditions .now) (a .responses .now) (a .includes .now) (a .excludes .now) in
-    let clear : graphVerdict g ≡ Verdict.Clear = sym (c .before .before .before .before .check .ensures) ∙ c .before .before .enum-told .given .1 in
+    let clear : graphVerdict g ≡ Verdict.Clear = sym (c .before .before .before .before .verdict .ensures) ∙ c .before .before .enum-told .given .1 in
     let b : Counted (a .steps) (a .people) (a .roles) = clear-counts g clear in
     omega arith
 
@@ -55,7 +55,7 @@ returns-3 : tie.Need-returns-3
 returns-3 c =
     let a = c .before .before .before .before .before .before .args in
     let g : Graph = lentGraph (a .steps) (a .people) (a .roles) (a .allows .now) (a .holds .now) (a .conditions .now) (a .responses .now) (a .includes .now) (a .excludes .now) in
-    let clear : graphVerdict g ≡ Verdict.Clear = sym (c .before .before .before .before .before .check .ensures) ∙ c .before .before .before .enum-told .given .1 in
+    let clear : graphVerdict g ≡ Verdict.Clear = sym (c .before .before .before .before .before .verdict .ensures) ∙ c .before .before .before .enum-told .given .1 in
     let within : markingFits (a .steps) (a .m) ≡ true = sym (c .before .before .fits2 .ensures) ∙ not-false _ (c .before .if1 .left) in
     c .enter .ensures ∙ sym (move-inside g (a .m) (a .e) clear within)
 
@@ -63,7 +63,7 @@ pub take-spec : {M : Type 1} → statement M
 take-spec =
     tie.close
     (tie.spec
-    check-requires
+    verdict-requires
     enum-known-v
     returns
     enum-told

@@ -1,0 +1,18 @@
+-- `ulz_check`: the verdict as a word. Assumes nothing.
+use mathlib.Core.Path.{ap, _∙_}
+use borrow.Author.Needs.{needs}
+use Rattle.door.specs.Words.{verdictWord}
+use Rattle.door.proofs.ulz_check.Statement.{statement}
+use Rattle.door.proofs.ulz_check.Tie as tie
+
+check-requires : tie.Need-check-requires
+check-requires c κs = search needs
+
+verdict-requires : tie.Need-verdict-requires
+verdict-requires c κs = search needs
+
+returns : tie.Need-returns
+returns c = c .verdict .ensures ∙ ap verdictWord (c .before .check .ensures)
+
+pub ulz-check-spec : {M : Type 1} → statement M
+ulz-check-spec = tie.close (tie.spec check-requires verdict-requires returns)

@@ -1,0 +1,26 @@
+-- `lent::arrows_checked`: what the four tables name together, below and beyond the count, tells whether each keeps to it. Assumes nothing.
+use borrow.Author.Needs.{needs}
+use Rattle.rules.specs.Laws.{arrows-keep, shared-apart}
+use Rattle.rules.proofs.lent.arrows_checked.Statement.{statement}
+use Rattle.rules.proofs.lent.arrows_checked.Tie as tie
+
+arrows-named-requires : tie.Need-arrows-named-requires
+arrows-named-requires c κs = search needs
+
+arrows-beyond-requires : tie.Need-arrows-beyond-requires
+arrows-beyond-requires c κs = search needs
+
+full-requires : tie.Need-full-requires
+full-requires c κs = search needs
+
+returns : tie.Need-returns
+returns c =
+    let a = c .before .before .before .before .before .before .before .before .before .before .before .before .before .args in (
+      arrows-keep (a .steps) (a .conditions .now) (a .responses .now) (a .includes .now) (a .excludes .now) _ _ _ (c .before .before .full .ensures) (c .before .before .before .before .before .before .before .before .before .before .before .before .before .pre)
+          (c .before .before .before .before .before .before .before .before .before .before .before .before .arrows-named-arg .given .0) (c .before .before .before .before .before .before .before .before .before .before .before .arrows-named-arg2 .given .0) (c .before .before .before .before .before .before .before .before .before .before .arrows-named-arg3 .given .0) (c .before .before .before .before .before .before .before .before .before .arrows-named-arg4 .given .0) (c .before .before .before .before .before .before .before .before .arrows-named .ensures .0) (c .before .before .before .arrows-beyond .ensures),
+      shared-apart (a .steps) (a .includes .now) (a .excludes .now) _ (c .before .before .before .before .before .before .before .before .arrows-named .ensures .1),
+    )
+
+pub arrows-checked-spec : {M : Type 1} → statement M
+arrows-checked-spec =
+    tie.close (tie.spec arrows-named-requires arrows-beyond-requires full-requires returns)
