@@ -22,7 +22,7 @@ use Rattle.rules.specs.declared.Ending.{Ending}
 use Rattle.rules.specs.declared.Refusal.the-variants.{Outside, Unknown}
 use Rattle.rules.specs.First.{Line, first, number, numberOf}
 use Rattle.rules.specs.Graph.{row, keeps, beyond, rowsTogether, rowsShared, rolesFit, arrowsFit, kindsApart, graphLines, graphVerdict, countsFit, within1to}
-use Rattle.rules.specs.Move.{moveOf, entryMove, theMove, theEnding, endingOf, isFinished, known, markingFits, moveLines, entryLines, markingLines, rowLines, rowOf, after, noMarking}
+use Rattle.rules.specs.Move.{moveOf, entryMove, moveOn, theMove, theEnding, endingOn, endingOf, isFinished, known, markingFits, moveLines, entryLines, markingLines, sizeLines, rowLines, rowOf, after, noMarking}
 
 -- ---- the first line that holds
 
@@ -274,17 +274,13 @@ clear-counts g e = counts-bound (g .steps) (g .people) (g .roles) (not-false (co
 
 -- ---- the answers, by what is found of the graph and the marking
 
-outside : (g : Graph) (m : Marking) (rest : List Line) → graphVerdict g ≡ Verdict.Clear → markingFits (g .steps) m ≡ false
-    → first (graphLines g ++ markingLines g m ++ rest) ≡ Verdict.Refused Outside
+outside : (n : ℕ) (m : Marking) (rest : List Line) → markingFits n m ≡ false → first (sizeLines n m ++ rest) ≡ Verdict.Refused Outside
 unfolding first
-outside g m rest e f =
-    first-clear (graphLines g) (markingLines g m ++ rest) e ∙ ap (λ (b : Bool). cond (not b) (Verdict.Refused Outside) (first rest)) f
+outside n m rest f = ap (λ (b : Bool). cond (not b) (Verdict.Refused Outside) (first rest)) f
 
-inside : (g : Graph) (m : Marking) (rest : List Line) → graphVerdict g ≡ Verdict.Clear → markingFits (g .steps) m ≡ true
-    → first (graphLines g ++ markingLines g m ++ rest) ≡ first rest
+inside : (n : ℕ) (m : Marking) (rest : List Line) → markingFits n m ≡ true → first (sizeLines n m ++ rest) ≡ first rest
 unfolding first
-inside g m rest e f =
-    first-clear (graphLines g) (markingLines g m ++ rest) e ∙ ap (λ (b : Bool). cond (not b) (Verdict.Refused Outside) (first rest)) f
+inside n m rest f = ap (λ (b : Bool). cond (not b) (Verdict.Refused Outside) (first rest)) f
 
 -- 2, 4 and 6 come before 11: no marking is given back with them
 graph-low : (g : Graph) (r : Refusal) → graphVerdict g ≡ Verdict.Refused r → leb 11 (numberOf r) ≡ false
@@ -297,27 +293,41 @@ move-refused g m e r q =
     ap (λ (v : Verdict). moveOf v m (after (rowOf g (e .person) (e .step .0)) m (e .step .0))) (first-refused (graphLines g) (markingLines g m ++ entryLines g m e) r q)
     ∙ ap (λ (b : Bool). Move.Refused r (cond b m noMarking)) (graph-low g r q)
 
+pub move-clear : (g : Graph) (m : Marking) (e : Entry) → graphVerdict g ≡ Verdict.Clear → theMove g m e ≡ moveOn g m e
+unfolding theMove moveOn
+move-clear g m e q =
+    ap (λ (v : Verdict). moveOf v m (after (rowOf g (e .person) (e .step .0)) m (e .step .0))) (first-clear (graphLines g) (markingLines g m ++ entryLines g m e) q)
+
+pub on-outside : (g : Graph) (m : Marking) (e : Entry) → markingFits (g .steps) m ≡ false → moveOn g m e ≡ Move.Refused Outside noMarking
+unfolding moveOn moveOf numberOf
+on-outside g m e f = ap (λ (v : Verdict). moveOf v m (after (rowOf g (e .person) (e .step .0)) m (e .step .0))) (outside (g .steps) m (entryLines g m e) f)
+
+pub on-inside : (g : Graph) (m : Marking) (e : Entry) → markingFits (g .steps) m ≡ true → moveOn g m e ≡ entryMove g m e
+unfolding moveOn entryMove
+on-inside g m e f = ap (λ (v : Verdict). moveOf v m (after (rowOf g (e .person) (e .step .0)) m (e .step .0))) (inside (g .steps) m (entryLines g m e) f)
+
 pub move-outside : (g : Graph) (m : Marking) (e : Entry) → graphVerdict g ≡ Verdict.Clear → markingFits (g .steps) m ≡ false
     → theMove g m e ≡ Move.Refused Outside noMarking
-unfolding theMove moveOf numberOf
-move-outside g m e q f = ap (λ (v : Verdict). moveOf v m (after (rowOf g (e .person) (e .step .0)) m (e .step .0))) (outside g m (entryLines g m e) q f)
+move-outside g m e q f = move-clear g m e q ∙ on-outside g m e f
 
 pub move-inside : (g : Graph) (m : Marking) (e : Entry) → graphVerdict g ≡ Verdict.Clear → markingFits (g .steps) m ≡ true → theMove g m e ≡ entryMove g m e
-unfolding theMove entryMove
-move-inside g m e q f = ap (λ (v : Verdict). moveOf v m (after (rowOf g (e .person) (e .step .0)) m (e .step .0))) (inside g m (entryLines g m e) q f)
+move-inside g m e q f = move-clear g m e q ∙ on-inside g m e f
 
 pub ending-refused : (g : Graph) (m : Marking) (r : Refusal) → graphVerdict g ≡ Verdict.Refused r → theEnding g m ≡ Ending.Refused r
 unfolding theEnding endingOf
 ending-refused g m r q = ap (λ (v : Verdict). endingOf v (isFinished m)) (first-refused (graphLines g) (markingLines g m) r q)
 
-pub ending-outside : (g : Graph) (m : Marking) → graphVerdict g ≡ Verdict.Clear → markingFits (g .steps) m ≡ false → theEnding g m ≡ Ending.Refused Outside
-unfolding theEnding endingOf
-ending-outside g m q f = ap (λ (v : Verdict). endingOf v (isFinished m)) (outside g m [] q f)
+pub ending-clear : (g : Graph) (m : Marking) → graphVerdict g ≡ Verdict.Clear → theEnding g m ≡ endingOn (g .steps) m
+unfolding theEnding endingOn
+ending-clear g m q = ap (λ (v : Verdict). endingOf v (isFinished m)) (first-clear (graphLines g) (markingLines g m) q)
 
-pub ending-inside : (g : Graph) (m : Marking) → graphVerdict g ≡ Verdict.Clear → markingFits (g .steps) m ≡ true
-    → theEnding g m ≡ cond (isFinished m) Ending.Finished Ending.Open
-unfolding theEnding endingOf first
-ending-inside g m q f = ap (λ (v : Verdict). endingOf v (isFinished m)) (inside g m [] q f)
+pub ending-outside : (n : ℕ) (m : Marking) → markingFits n m ≡ false → endingOn n m ≡ Ending.Refused Outside
+unfolding endingOn endingOf
+ending-outside n m f = ap (λ (v : Verdict). endingOf v (isFinished m)) (outside n m [] f)
+
+pub ending-inside : (n : ℕ) (m : Marking) → markingFits n m ≡ true → endingOn n m ≡ cond (isFinished m) Ending.Finished Ending.Open
+unfolding endingOn endingOf first
+ending-inside n m f = ap (λ (v : Verdict). endingOf v (isFinished m)) (inside n m [] f)
 
 -- ---- an entry, by what is known of it
 

@@ -66,8 +66,11 @@ markingFits n m = within n (m .done) && within n (m .due) && within n (m .includ
 
 -- ---- the tables
 
+abbrev pub sizeLines : ℕ → Marking → List Line
+sizeLines n m = (Outside, not (markingFits n m)) ∷ []
+
 abbrev pub markingLines : Graph → Marking → List Line
-markingLines g m = (Outside, not (markingFits (g .steps) m)) ∷ []
+markingLines g m = sizeLines (g .steps) m
 
 abbrev pub rowLines : Row → Marking → Entry → List Line
 rowLines w m e =
@@ -93,10 +96,6 @@ unfoldable pub moveOf : Verdict → Marking → Marking → Move
 moveOf Verdict.Clear before next = Move.Moved next
 moveOf (Verdict.Refused r) before next = Move.Refused r (cond (leb 11 (numberOf r)) before noMarking)
 
--- an entry on a graph and a marking that are as they should be
-unfoldable pub entryMove : Graph → Marking → Entry → Move
-entryMove g m e = moveOf (first (entryLines g m e)) m (after (rowOf g (e .person) (e .step .0)) m (e .step .0))
-
 -- any entry on anything
 unfoldable pub theMove : Graph → Marking → Entry → Move
 theMove g m e = moveOf (first (moveLines g m e)) m (after (rowOf g (e .person) (e .step .0)) m (e .step .0))
@@ -105,5 +104,17 @@ unfoldable pub endingOf : Verdict → Bool → Ending
 endingOf Verdict.Clear done = cond done Ending.Finished Ending.Open
 endingOf (Verdict.Refused r) done = Ending.Refused r
 
+-- is the job finished?
 unfoldable pub theEnding : Graph → Marking → Ending
 theEnding g m = endingOf (first (graphLines g ++ markingLines g m)) (isFinished m)
+
+-- ---- the same on a graph, and then a marking, that are as they should be: what the calls go by inside
+
+unfoldable pub moveOn : Graph → Marking → Entry → Move
+moveOn g m e = moveOf (first (markingLines g m ++ entryLines g m e)) m (after (rowOf g (e .person) (e .step .0)) m (e .step .0))
+
+unfoldable pub entryMove : Graph → Marking → Entry → Move
+entryMove g m e = moveOf (first (entryLines g m e)) m (after (rowOf g (e .person) (e .step .0)) m (e .step .0))
+
+unfoldable pub endingOn : ℕ → Marking → Ending
+endingOn n m = endingOf (first (sizeLines n m)) (isFinished m)

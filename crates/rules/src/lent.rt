@@ -4,7 +4,7 @@ ghost use Prim.Native.Nat.{ℕ, _<_, _≤_};
 ghost use lib.ListN.{length};
 ghost use Rattle.sets.specs.Sets.{gather};
 ghost use Rattle.rules.specs.Graph.{row, beyond, rowsTogether, rowsShared, Reach, countsFit, rolesFit, arrowsFit, kindsApart, lentGraph, graphVerdict};
-ghost use Rattle.rules.specs.Move.{theMove, theEnding, entryMove, rowOf};
+ghost use Rattle.rules.specs.Move.{theMove, theEnding, moveOn, endingOn, entryMove, rowOf};
 ghost use Rattle.rules.specs.First.{first};
 use crate::Ending;
 use crate::Entry;
@@ -285,8 +285,8 @@ pub fn enter<'a>(
     )
 }
 
-// Refusals 2, 4, 6, 8, 11 to 15.
-pub fn take<'a>(
+// A marking and an entry on a graph whose counts fit. Refusals 8, 11 to 15.
+pub fn take_on<'a>(
     steps: u8,
     people: u8,
     roles: u8,
@@ -299,22 +299,9 @@ pub fn take<'a>(
     m: Marking,
     e: Entry,
 ) -> Move
-    ensures { λ r. ⌜ r ≡ theMove (lentGraph steps people roles (now (allows .entry)) (now (holds .entry)) (now (conditions .entry)) (now (responses .entry)) (now (includes .entry)) (now (excludes .entry))) m e ⌝ }
+    requires { ⌜ (steps ≤ 64) × (people ≤ 16) × (roles ≤ 16) ⌝ }
+    ensures { λ r. ⌜ r ≡ moveOn (lentGraph steps people roles (now (allows .entry)) (now (holds .entry)) (now (conditions .entry)) (now (responses .entry)) (now (includes .entry)) (now (excludes .entry))) m e ⌝ }
 {
-    let v = verdict(
-        excludes,
-        includes,
-        responses,
-        conditions,
-        holds,
-        allows,
-        steps,
-        people,
-        roles,
-    );
-    if let Verdict::Refused(r) = v {
-        return Move::Refused(r, NONE);
-    }
     if !fits(steps, m) {
         return Move::Refused(Refusal::Outside, NONE);
     }
@@ -333,6 +320,66 @@ pub fn take<'a>(
     )
 }
 
+// Refusals 2, 4, 6, 8, 11 to 15.
+pub fn take<'a>(
+    steps: u8,
+    people: u8,
+    roles: u8,
+    allows: &'a [u16; 64],
+    holds: &'a [u16; 16],
+    conditions: &'a [u64; 64],
+    responses: &'a [u64; 64],
+    includes: &'a [u64; 64],
+    excludes: &'a [u64; 64],
+    m: Marking,
+    e: Entry,
+) -> Move
+    ensures { λ r. ⌜ r ≡ theMove (lentGraph steps people roles (now (allows .entry)) (now (holds .entry)) (now (conditions .entry)) (now (responses .entry)) (now (includes .entry)) (now (excludes .entry))) m e ⌝ }
+{
+    let v = check(
+        steps,
+        people,
+        roles,
+        allows,
+        holds,
+        conditions,
+        responses,
+        includes,
+        excludes,
+    );
+    if let Verdict::Refused(r) = v {
+        return Move::Refused(r, NONE);
+    }
+    take_on(
+        steps,
+        people,
+        roles,
+        allows,
+        holds,
+        conditions,
+        responses,
+        includes,
+        excludes,
+        m,
+        e,
+    )
+}
+
+// A marking of a graph with that many steps, at most 64. Refusal 8.
+pub fn finished_on(steps: u8, m: Marking) -> Ending
+    requires { ⌜ steps ≤ 64 ⌝ }
+    ensures { λ r. ⌜ r ≡ endingOn steps m ⌝ }
+{
+    if !fits(steps, m) {
+        return Ending::Refused(Refusal::Outside);
+    }
+    if m.due & m.included == 0 {
+        Ending::Finished
+    } else {
+        Ending::Open
+    }
+}
+
 // Refusals 2, 4, 6, 8.
 pub fn finished<'a>(
     steps: u8,
@@ -348,26 +395,19 @@ pub fn finished<'a>(
 ) -> Ending
     ensures { λ r. ⌜ r ≡ theEnding (lentGraph steps people roles (now (allows .entry)) (now (holds .entry)) (now (conditions .entry)) (now (responses .entry)) (now (includes .entry)) (now (excludes .entry))) m ⌝ }
 {
-    let v = verdict(
-        excludes,
-        includes,
-        responses,
-        conditions,
-        holds,
-        allows,
+    let v = check(
         steps,
         people,
         roles,
+        allows,
+        holds,
+        conditions,
+        responses,
+        includes,
+        excludes,
     );
     if let Verdict::Refused(r) = v {
         return Ending::Refused(r);
     }
-    if !fits(steps, m) {
-        return Ending::Refused(Refusal::Outside);
-    }
-    if m.due & m.included == 0 {
-        Ending::Finished
-    } else {
-        Ending::Open
-    }
+    finished_on(steps, m)
 }
