@@ -30,15 +30,15 @@ pub extern "C" fn ulz_check<'a>(
     ensures { λ r. ⌜ r ≡ verdictWord (graphVerdict (lentGraph steps people roles (now (allows .entry)) (now (holds .entry)) (now (conditions .entry)) (now (responses .entry)) (now (includes .entry)) (now (excludes .entry)))) ⌝ }
 {
     let v = rules::lent::check(
+        excludes,
+        includes,
+        responses,
+        conditions,
+        holds,
+        allows,
         steps,
         people,
         roles,
-        allows,
-        holds,
-        conditions,
-        responses,
-        includes,
-        excludes,
     );
     words::verdict(v)
 }
@@ -63,13 +63,27 @@ pub extern "C" fn ulz_take<'a, 'b>(
     ensures { λ r. ⌜ r ≡ moveWord (theMove (lentGraph steps people roles (now (allows .entry)) (now (holds .entry)) (now (conditions .entry)) (now (responses .entry)) (now (includes .entry)) (now (excludes .entry))) (markingIn (now (marking .entry))) (entryOf person step role)) ⌝ }
     ensures { λ r. ⌜ now (marking .exit) ≡ markingOut (theMove (lentGraph steps people roles (now (allows .entry)) (now (holds .entry)) (now (conditions .entry)) (now (responses .entry)) (now (includes .entry)) (now (excludes .entry))) (markingIn (now (marking .entry))) (entryOf person step role)) (now (marking .entry)) ⌝ }
 {
+    let v = rules::lent::check(
+        excludes,
+        includes,
+        responses,
+        conditions,
+        holds,
+        allows,
+        steps,
+        people,
+        roles,
+    );
+    if let Verdict::Refused(r) = v {
+        return words::refusal(r);
+    }
     let m = words::marking(marking);
     let e = Entry {
         person,
         step: Step(step),
         role,
     };
-    let o = rules::lent::take(
+    let o = rules::lent::take_on(
         steps,
         people,
         roles,
@@ -101,18 +115,20 @@ pub extern "C" fn ulz_finished<'a, 'b>(
 ) -> u64
     ensures { λ r. ⌜ r ≡ endingWord (theEnding (lentGraph steps people roles (now (allows .entry)) (now (holds .entry)) (now (conditions .entry)) (now (responses .entry)) (now (includes .entry)) (now (excludes .entry))) (markingIn (now (marking .entry)))) ⌝ }
 {
-    let m = words::marking(marking);
-    let o = rules::lent::finished(
+    let v = rules::lent::check(
+        excludes,
+        includes,
+        responses,
+        conditions,
+        holds,
+        allows,
         steps,
         people,
         roles,
-        allows,
-        holds,
-        conditions,
-        responses,
-        includes,
-        excludes,
-        m,
     );
+    if let Verdict::Refused(r) = v {
+        return words::refusal(r);
+    }
+    let o = rules::lent::finished_on(steps, words::marking(marking));
     words::ending(o)
 }

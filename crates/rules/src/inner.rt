@@ -72,8 +72,7 @@ pub fn fits(n: u8, m: Marking) -> bool
     requires { ⌜ n ≤ 64 ⌝ }
     ensures { λ r. ⌜ r ≡ markingFits n m ⌝ }
 {
-    let inside = sets::full(n);
-    (m.done <= inside) & (m.due <= inside) & (m.included <= inside)
+    (m.done | m.due) | m.included <= sets::full(n)
 }
 
 // The rank of a step.

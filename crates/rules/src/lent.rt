@@ -155,7 +155,7 @@ fn arrows_checked<'a>(
 
 // Refusals 2, 4, 6. The parameters stand last to first: a caller that was itself handed the tables on its stack then hands them on in
 // registers, which is measurably quicker than copying them from stack to stack.
-fn verdict<'a>(
+pub fn check<'a>(
     excludes: &'a [u64; 64],
     includes: &'a [u64; 64],
     responses: &'a [u64; 64],
@@ -179,33 +179,6 @@ fn verdict<'a>(
         return Verdict::Refused(Refusal::Both);
     }
     Verdict::Clear
-}
-
-// Refusals 2, 4, 6.
-pub fn check<'a>(
-    steps: u8,
-    people: u8,
-    roles: u8,
-    allows: &'a [u16; 64],
-    holds: &'a [u16; 16],
-    conditions: &'a [u64; 64],
-    responses: &'a [u64; 64],
-    includes: &'a [u64; 64],
-    excludes: &'a [u64; 64],
-) -> Verdict
-    ensures { λ r. ⌜ r ≡ graphVerdict (lentGraph steps people roles (now (allows .entry)) (now (holds .entry)) (now (conditions .entry)) (now (responses .entry)) (now (includes .entry)) (now (excludes .entry))) ⌝ }
-{
-    verdict(
-        excludes,
-        includes,
-        responses,
-        conditions,
-        holds,
-        allows,
-        steps,
-        people,
-        roles,
-    )
 }
 
 // What an entry of person p and step s meets of the graph.
@@ -337,15 +310,15 @@ pub fn take<'a>(
     ensures { λ r. ⌜ r ≡ theMove (lentGraph steps people roles (now (allows .entry)) (now (holds .entry)) (now (conditions .entry)) (now (responses .entry)) (now (includes .entry)) (now (excludes .entry))) m e ⌝ }
 {
     let v = check(
+        excludes,
+        includes,
+        responses,
+        conditions,
+        holds,
+        allows,
         steps,
         people,
         roles,
-        allows,
-        holds,
-        conditions,
-        responses,
-        includes,
-        excludes,
     );
     if let Verdict::Refused(r) = v {
         return Move::Refused(r, NONE);
@@ -396,15 +369,15 @@ pub fn finished<'a>(
     ensures { λ r. ⌜ r ≡ theEnding (lentGraph steps people roles (now (allows .entry)) (now (holds .entry)) (now (conditions .entry)) (now (responses .entry)) (now (includes .entry)) (now (excludes .entry))) m ⌝ }
 {
     let v = check(
+        excludes,
+        includes,
+        responses,
+        conditions,
+        holds,
+        allows,
         steps,
         people,
         roles,
-        allows,
-        holds,
-        conditions,
-        responses,
-        includes,
-        excludes,
     );
     if let Verdict::Refused(r) = v {
         return Ending::Refused(r);

@@ -143,15 +143,15 @@ pub fn check(g: Graph) -> Verdict
     ensures { λ r. ⌜ r ≡ graphVerdict g ⌝ }
 {
     lent::check(
+        &g.excludes,
+        &g.includes,
+        &g.responses,
+        &g.conditions,
+        &g.holds,
+        &g.allows,
         g.steps,
         g.people,
         g.roles,
-        &g.allows,
-        &g.holds,
-        &g.conditions,
-        &g.responses,
-        &g.includes,
-        &g.excludes,
     )
 }
 

@@ -1,4 +1,4 @@
--- `lent::verdict`: the three tests are the table's three lines, in its order. Assumes nothing.
+-- `lent::check`: the three tests are the table's three lines, in its order. Assumes nothing.
 use mathlib.Core.Path.{_≡_, sym, _∙_, ap, ap₂}
 use mathlib.Core.Bool.{not, _&&_}
 use native.Mathlib.Omega.{arith}
@@ -8,8 +8,8 @@ use Rattle.rules.specs.declared.Graph.{Graph}
 use Rattle.rules.specs.First.{first}
 use Rattle.rules.specs.Graph.{lentGraph, setsFit, kindsApart}
 use Rattle.rules.specs.Laws.{Counted, counts-bound}
-use Rattle.rules.proofs.lent.verdict.Statement.{statement}
-use Rattle.rules.proofs.lent.verdict.Tie as tie
+use Rattle.rules.proofs.lent.check.Statement.{statement}
+use Rattle.rules.proofs.lent.check.Tie as tie
 
 counts-fit-requires : tie.Need-counts-fit-requires
 counts-fit-requires c κs = search needs
@@ -56,8 +56,8 @@ returns-4 c =
     let apart : kindsApart (a .steps) (a .includes .now) (a .excludes .now) ≡ c .before .before .before .before .before .arrows-checked .result .apart = sym (c .before .before .before .before .before .arrows-checked .ensures .1) in
     simp (ap not (sym (c .before .before .before .before .before .before .before .counts-fit .ensures)) ∙ c .before .before .before .before .before .before .if1 .left, ap not fit ∙ c .before .before .if2 .left, ap not apart ∙ c .if3 .left)
 
-pub verdict-spec : {M : Type 1} → statement M
-verdict-spec =
+pub check-spec : {M : Type 1} → statement M
+check-spec =
     tie.close
     (tie.spec
     counts-fit-requires
