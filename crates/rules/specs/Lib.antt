@@ -3,3 +3,4 @@ pub mod Graph
 pub mod Move
 pub mod Laws
 pub mod Sound
+pub mod Paper

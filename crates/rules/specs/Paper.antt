@@ -1,0 +1,239 @@
+-- The paper's Definitions 3, 4 and 5, item by item, and that the move is what they say. docs/RULES.md holds them beside the paper's text.
+-- Assumes nothing.
+use Prim.Native.Nat.{ℕ, _<_, _≤_}
+use mathlib.Core.Path.{_≡_, refl, sym, ap, ap₂, _∙_}
+use mathlib.Core.Logic.{_↔_}
+use mathlib.Core.List.{List, [], _∷_, _++_}
+use mathlib.Core.Bool.{Bool, true, false, not, _&&_, _||_, cond, true≢false, false≢true}
+use native.Mathlib.Omega.{arith}
+use lib.Dec.{eqb}
+use borrow.Author.Tests.{not-true, not-false, eq-eqb, eqb-true}
+use Rattle.sets.specs.Sets.{has, single, union, meet, minus, empty}
+use Rattle.sets.specs.Laws.{has-union, has-meet, has-minus, has-single, empty-members, members-empty}
+use Rattle.rules.specs.declared.Graph.{Graph}
+use Rattle.rules.specs.declared.Marking.{Marking}
+use Rattle.rules.specs.declared.Entry.{Entry}
+use Rattle.rules.specs.declared.Refusal.{Refusal}
+use Rattle.rules.specs.declared.Verdict.{Verdict}
+use Rattle.rules.specs.declared.Move.{Move}
+use Rattle.rules.specs.First.{first, number, numberOf}
+use Rattle.rules.specs.Graph.{graphLines, graphVerdict, conditionsOf, responsesOf, includesOf, excludesOf, rolesOf, rolesHeld}
+use Rattle.rules.specs.Move.{theMove, moveOn, moveOf, entryMove, moveLines, entryLines, markingLines, rowLines, known, after, rowOf, waitsFor, isFinished, markingFits, noMarking}
+use Rattle.rules.specs.Laws.{ascends, holds, first-holds, first-lowest, clear-head, clear-tail, first-clear}
+
+-- ---- Definition 3: the relations
+
+-- (iv) a →• b
+abbrev pub condition : Graph → ℕ → ℕ → Bool
+condition g a b = has (conditionsOf g b) a
+
+-- (v) a •→ b
+abbrev pub response : Graph → ℕ → ℕ → Bool
+response g a b = has (responsesOf g a) b
+
+-- (vi) a →+ b
+abbrev pub includes : Graph → ℕ → ℕ → Bool
+includes g a b = has (includesOf g a) b
+
+-- (vi) a →% b
+abbrev pub excludes : Graph → ℕ → ℕ → Bool
+excludes g a b = has (excludesOf g a) b
+
+-- ---- Definitions 4 and 5: when person p may take step e in role r
+
+pub record Allowed (g : Graph) (m : Marking) (e : Entry) : Type 0 where
+  -- p as r
+  pub person-as : has (rolesHeld g (e .person)) (e .role) ≡ true
+  -- a as r
+  pub action-as : has (rolesOf g (e .step .0)) (e .role) ≡ true
+  -- (iii) e ∈ In'
+  pub included : has (m .included) (e .step .0) ≡ true
+  -- (iv) {e' ∈ In' | e' →• e} ⊆ Ex'
+  pub conditions : (a : ℕ) → has (m .included) a ≡ true → condition g a (e .step .0) ≡ true → has (m .done) a ≡ true
+
+three : (p q r : Bool) → ((p && q) && not r) ≡ false → q ≡ true → p ≡ true → r ≡ true
+three true true true e f h = refl
+three true true false e f h = sym e
+three true false r e f h = absurd (false≢true f)
+three false q r e f h = absurd (false≢true h)
+
+three-of : (p q r : Bool) → (q ≡ true → p ≡ true → r ≡ true) → ((p && q) && not r) ≡ false
+three-of true true true f = refl
+three-of true true false f = sym (f refl refl)
+three-of true false r f = refl
+three-of false q r f = refl
+
+has-waits : (conditions : ℕ) (m : Marking) (a : ℕ) → has (waitsFor conditions m) a ≡ ((has conditions a && has (m .included) a) && not (has (m .done) a))
+has-waits conditions m a =
+    has-minus (meet conditions (m .included)) (m .done) a ∙ ap (λ (b : Bool). b && not (has (m .done) a)) (has-meet conditions (m .included) a)
+
+-- nothing is against an entry that is known exactly if the definitions allow it
+pub lines-allowed : (g : Graph) (m : Marking) (e : Entry) → first (rowLines (rowOf g (e .person) (e .step .0)) m e) ≡ Verdict.Clear → Allowed g m e
+lines-allowed g m e c =
+    let c2 = clear-tail _ _ c in
+    let c3 = clear-tail _ _ c2 in
+    let c4 = clear-tail _ _ c3 in
+    record {
+      person-as = not-false (has (rolesHeld g (e .person)) (e .role)) (clear-head _ _ c);
+      action-as = not-false (has (rolesOf g (e .step .0)) (e .role)) (clear-head _ _ c2);
+      included = not-false (has (m .included) (e .step .0)) (clear-head _ _ c3);
+      conditions = λ a i r.
+          three (condition g a (e .step .0)) (has (m .included) a) (has (m .done) a)
+          (sym (has-waits (conditionsOf g (e .step .0)) m a)
+          ∙ empty-members (waitsFor (conditionsOf g (e .step .0)) m) (not-false (empty (waitsFor (conditionsOf g (e .step .0)) m)) (clear-head _ _ c4)) a) i r;
+    }
+
+pub allowed-lines : (g : Graph) (m : Marking) (e : Entry) → Allowed g m e → first (rowLines (rowOf g (e .person) (e .step .0)) m e) ≡ Verdict.Clear
+unfolding first
+allowed-lines g m e w =
+    let none : empty (waitsFor (conditionsOf g (e .step .0)) m) ≡ true =
+    members-empty (waitsFor (conditionsOf g (e .step .0)) m) (λ a. has-waits (conditionsOf g (e .step .0)) m a
+    ∙ three-of (condition g a (e .step .0)) (has (m .included) a) (has (m .done) a) (w .conditions a)) in
+    simp (w .person-as, w .action-as, w .included, none)
+
+-- ---- the move answers "moved" exactly if all is as it should be and the definitions allow the entry
+
+-- the graph and the marking are as they should be, and the entry names what there is
+pub record Ready (g : Graph) (m : Marking) (e : Entry) : Type 0 where
+  pub graph : graphVerdict g ≡ Verdict.Clear
+  pub marking : markingFits (g .steps) m ≡ true
+  pub names : known g e ≡ true
+
+moved-clear : (v : Verdict) (m next x : Marking) → moveOf v m next ≡ Move.Moved x → v ≡ Verdict.Clear
+unfolding moveOf
+moved-clear Verdict.Clear m next x e = refl
+moved-clear (Verdict.Refused r) m next x e = absurd (let z : _≡_ {A = ℕ} 0 1 = cc in let w : ⊥ = omega arith in w)
+
+split-clear : (a b : List (Refusal × Bool)) → first (a ++ b) ≡ Verdict.Clear → first a ≡ Verdict.Clear
+unfolding first
+split-clear [] b e = refl
+split-clear (l ∷ a) b e = go (l .1) refl (split-clear a b)
+  where
+    go : (h : Bool) → l .1 ≡ h → (first (a ++ b) ≡ Verdict.Clear → first a ≡ Verdict.Clear) → cond (l .1) (Verdict.Refused (l .0)) (first a) ≡ Verdict.Clear
+    go true p rest = absurd (true≢false (sym p ∙ clear-head l (a ++ b) e))
+    go false p rest = ap (λ (h : Bool). cond h (Verdict.Refused (l .0)) (first a)) p ∙ rest (clear-tail l (a ++ b) e)
+
+-- Definition 4 (i) to (vi) with Definition 5, from left to right: a step taken was allowed, and leads to the marking after
+pub moved-allowed : (g : Graph) (m x : Marking) (e : Entry) → theMove g m e ≡ Move.Moved x
+    → Ready g m e × Allowed g m e × (x ≡ after (rowOf g (e .person) (e .step .0)) m (e .step .0))
+unfolding theMove moveOf
+moved-allowed g m x e q =
+    let w = after (rowOf g (e .person) (e .step .0)) m (e .step .0) in
+    let c : first (moveLines g m e) ≡ Verdict.Clear = moved-clear (first (moveLines g m e)) m w x q in
+    let graph : graphVerdict g ≡ Verdict.Clear = split-clear (graphLines g) (markingLines g m ++ entryLines g m e) c in
+    let rest : first (markingLines g m ++ entryLines g m e) ≡ Verdict.Clear = sym (first-clear (graphLines g) (markingLines g m ++ entryLines g m e) graph) ∙ c in
+    let entry : first (entryLines g m e) ≡ Verdict.Clear = clear-tail _ _ rest in (
+      record {
+        graph = graph;
+        marking = not-false (markingFits (g .steps) m) (clear-head _ _ rest);
+        names = not-false (known g e) (clear-head _ _ entry);
+      },
+      lines-allowed g m e (clear-tail _ _ entry),
+      (let is : Move.Moved w ≡ Move.Moved x = sym (ap (λ (v : Verdict). moveOf v m w) c) ∙ q in cc),
+    )
+
+-- and from right to left: what is allowed is taken
+pub allowed-moved : (g : Graph) (m : Marking) (e : Entry) → Ready g m e → Allowed g m e
+    → theMove g m e ≡ Move.Moved (after (rowOf g (e .person) (e .step .0)) m (e .step .0))
+unfolding theMove moveOf first
+allowed-moved g m e r w =
+    let rest : first (markingLines g m ++ entryLines g m e) ≡ Verdict.Clear = simp (r .marking, r .names, allowed-lines g m e w) in
+    ap (λ (v : Verdict). moveOf v m (after (rowOf g (e .person) (e .step .0)) m (e .step .0)))
+    (first-clear (graphLines g) (markingLines g m ++ entryLines g m e) (r .graph) ∙ rest)
+
+-- ---- the number is exactly the first of the table that holds
+
+pub moveNumber : Move → ℕ
+moveNumber (Move.Moved m) = 0
+moveNumber (Move.Refused r m) = numberOf r
+
+of-number : (v : Verdict) (m next : Marking) → moveNumber (moveOf v m next) ≡ number v
+unfolding moveNumber moveOf number
+of-number Verdict.Clear m next = refl
+of-number (Verdict.Refused r) m next = refl
+
+pub move-number : (g : Graph) (m : Marking) (e : Entry) → moveNumber (theMove g m e) ≡ number (first (moveLines g m e))
+unfolding theMove
+move-number g m e = of-number (first (moveLines g m e)) m (after (rowOf g (e .person) (e .step .0)) m (e .step .0))
+
+-- the table of the move goes up, so that the first that holds is the lowest
+pub move-ascends : (g : Graph) (m : Marking) (e : Entry) → ascends 0 (moveLines g m e) ≡ true
+unfolding ascends numberOf
+move-ascends g m e = refl
+
+pub move-lowest : (g : Graph) (m : Marking) (e : Entry) (k : ℕ) → holds k (moveLines g m e) ≡ true
+    → (0 < moveNumber (theMove g m e)) × (moveNumber (theMove g m e) ≤ k)
+move-lowest g m e k h = rw move-number (first-lowest 0 (moveLines g m e) (move-ascends g m e) k h)
+
+-- ---- Definition 4 (ii), (v), (vi), set by set
+
+-- Ex'' = Ex' ∪ {e}
+pub after-done : (g : Graph) (m : Marking) (p e s : ℕ) → has (after (rowOf g p e) m e .done) s ≡ (has (m .done) s || eqb e s)
+after-done g m p e s = has-union (m .done) (single e) s ∙ ap (λ (b : Bool). has (m .done) s || b) (has-single e s)
+
+-- In'' = (In' ∪ {e' | e →+ e'}) \ {e' | e →% e'}
+pub after-included : (g : Graph) (m : Marking) (p e s : ℕ)
+    → has (after (rowOf g p e) m e .included) s ≡ ((has (m .included) s || includes g e s) && not (excludes g e s))
+after-included g m p e s =
+    has-minus (union (m .included) (includesOf g e)) (excludesOf g e) s
+    ∙ ap (λ (b : Bool). b && not (excludes g e s)) (has-union (m .included) (includesOf g e) s)
+
+-- Re'' = (Re' \ {e}) ∪ {e' | e •→ e'}
+pub after-due : (g : Graph) (m : Marking) (p e s : ℕ)
+    → has (after (rowOf g p e) m e .due) s ≡ ((has (m .due) s && not (eqb e s)) || response g e s)
+after-due g m p e s =
+    has-union (minus (m .due) (single e)) (responsesOf g e) s
+    ∙ ap (λ (b : Bool). b || response g e s) (has-minus (m .due) (single e) s ∙ ap (λ (b : Bool). has (m .due) s && not b) (has-single e s))
+
+-- ---- finished: Re ∩ In = ∅
+
+not-both : (p q : Bool) → (p && q) ≡ false → p ≡ true → q ≡ false
+not-both true q e f = e
+not-both false q e f = absurd (false≢true f)
+
+both-not : (p q : Bool) → (p ≡ true → q ≡ false) → (p && q) ≡ false
+both-not true q f = f refl
+both-not false q f = refl
+
+pub finished-apart : (m : Marking) → isFinished m ≡ true → (s : ℕ) → has (m .due) s ≡ true → has (m .included) s ≡ false
+finished-apart m e s = not-both (has (m .due) s) (has (m .included) s) (sym (has-meet (m .due) (m .included) s) ∙ empty-members (meet (m .due) (m .included)) e s)
+
+pub apart-finished : (m : Marking) → ((s : ℕ) → has (m .due) s ≡ true → has (m .included) s ≡ false) → isFinished m ≡ true
+apart-finished m f = members-empty (meet (m .due) (m .included)) (λ s. has-meet (m .due) (m .included) s ∙ both-not (has (m .due) s) (has (m .included) s) (f s))
+
+-- ---- what the slips would break
+
+or-first : (p q : Bool) → p ≡ true → (p || q) ≡ true
+or-first true q e = refl
+or-first false q e = absurd (false≢true e)
+
+or-second : (p q : Bool) → q ≡ true → (p || q) ≡ true
+or-second true q e = refl
+or-second false q e = e
+
+-- a due step stays due while others are done, excluded or not
+pub due-kept : (g : Graph) (m : Marking) (p e s : ℕ) → has (m .due) s ≡ true → eqb e s ≡ false → has (after (rowOf g p e) m e .due) s ≡ true
+due-kept g m p e s d other =
+    after-due g m p e s ∙ or-first (has (m .due) s && not (eqb e s)) (response g e s) (ap₂ (λ (x y : Bool). x && not y) d other)
+
+-- a step that is its own response is due again after it is done
+pub own-response : (g : Graph) (m : Marking) (p e : ℕ) → response g e e ≡ true → has (after (rowOf g p e) m e .due) e ≡ true
+own-response g m p e r = after-due g m p e e ∙ or-second (has (m .due) e && not (eqb e e)) (response g e e) r
+
+-- a step that excludes itself is out after it is done
+pub own-exclude : (g : Graph) (m : Marking) (p e : ℕ) → excludes g e e ≡ true → has (after (rowOf g p e) m e .included) e ≡ false
+own-exclude g m p e r = after-included g m p e e ∙ ap (λ (b : Bool). (has (m .included) e || includes g e e) && not b) r ∙ and-no (has (m .included) e || includes g e e)
+  where
+    and-no : (b : Bool) → (b && false) ≡ false
+    and-no true = refl
+    and-no false = refl
+
+-- a step that includes itself, and does not exclude itself, is in after it is done
+pub own-include : (g : Graph) (m : Marking) (p e : ℕ) → includes g e e ≡ true → excludes g e e ≡ false → has (after (rowOf g p e) m e .included) e ≡ true
+own-include g m p e r x =
+    after-included g m p e e ∙ ap₂ (λ (a b : Bool). a && not b) (or-second (has (m .included) e) (includes g e e) r) x
+
+-- a step that is its own condition waits for itself while it is included and was never done: conditions are read before the move
+pub own-condition : (g : Graph) (m : Marking) (e : ℕ) → condition g e e ≡ true → has (m .included) e ≡ true → has (m .done) e ≡ false
+    → has (waitsFor (conditionsOf g e) m) e ≡ true
+own-condition g m e c i d = has-waits (conditionsOf g e) m e ∙ ap₂ (λ (a b : Bool). a && not b) (ap₂ _&&_ c i) d
