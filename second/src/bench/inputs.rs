@@ -1,0 +1,23 @@
+//! Full graphs of 64 steps, 16 people and 16 roles, with arrows nearly everywhere. They are loaded before the race, and few
+//! enough to stay in the nearest cache: the calls are raced, not the memory.
+
+use second::cases::{self, Case, Density, Dice};
+use second::data::{Entry, Graph, Marking};
+
+const GRAPHS: u64 = 8;
+
+/// What is done to a marking so that the entry gets the wanted answer.
+pub type Bend = fn(&mut Dice, &Graph, &mut Marking, Entry);
+
+pub fn full(bend: Bend) -> Vec<Case> {
+    (0..GRAPHS)
+        .map(|index| {
+            let mut dice = Dice::new(64, index);
+            let graph = cases::sized(&mut dice, [64, 16, 16], [Density::Dense; 6]);
+            let mut marking = cases::inside(&mut dice, 64);
+            let entry = cases::fitting(&mut dice, &graph);
+            bend(&mut dice, &graph, &mut marking, entry);
+            Case { graph, marking, entry }
+        })
+        .collect()
+}

@@ -1,0 +1,13 @@
+//! The procedure box a second time, twice: `model` decides what is right, `peer` is what the box is raced against.
+//! `data` holds what crosses the border, `cases` makes inputs, `sample` is the small sample job of document 01.
+
+#![forbid(unsafe_code)]
+
+pub mod cases;
+pub mod data;
+pub mod model;
+pub mod peer;
+pub mod sample;
+
+#[cfg(test)]
+mod tests;

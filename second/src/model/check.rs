@@ -1,0 +1,30 @@
+use super::{graph::Pairs, lowest, Graph};
+use crate::data::Answer;
+
+/// 0 when the graph is well-formed, else 2, 4 or 6.
+pub fn check(g: &Graph) -> Answer {
+    Answer::new(lowest(&numbers(g)), 0)
+}
+
+/// "A graph handed over as a value is checked for 2, 4 and 6 each time."
+pub fn numbers(g: &Graph) -> [(u64, bool); 3] {
+    [(2, counts_out_of_range(g)), (4, names_beyond(g)), (6, includes_and_excludes(g))]
+}
+
+fn counts_out_of_range(g: &Graph) -> bool {
+    !(1..=64).contains(&g.steps) || !(1..=16).contains(&g.people) || !(1..=16).contains(&g.roles)
+}
+
+/// A pair that is not within the counts either names something beyond them or is stored for a number beyond them.
+fn names_beyond(g: &Graph) -> bool {
+    let outside = |pairs: &Pairs, first: usize, second: usize| pairs.iter().any(|(a, b)| *a >= first || *b >= second);
+    outside(&g.allows, g.steps, g.roles)
+        || outside(&g.holds, g.people, g.roles)
+        || [&g.conditions, &g.responses, &g.includes, &g.excludes]
+            .iter()
+            .any(|arrows| outside(arrows, g.steps, g.steps))
+}
+
+fn includes_and_excludes(g: &Graph) -> bool {
+    g.includes.iter().any(|pair| g.excludes.contains(pair))
+}

@@ -1,0 +1,19 @@
+//! The independent program, written from document 01 in plain sets and lists of pairs. It is slow on purpose: each rule is the
+//! document's sentence and nothing else. Where it and another body differ, it is right.
+
+mod check;
+mod finished;
+mod graph;
+mod marking;
+mod take;
+
+pub use check::check;
+pub use finished::finished;
+pub use graph::Graph;
+pub use marking::Marking;
+pub use take::take;
+
+/// "The lowest number that holds is given, per call": 0 if none of them holds.
+fn lowest(numbers: &[(u64, bool)]) -> u64 {
+    numbers.iter().filter(|(_, holds)| *holds).map(|(number, _)| *number).min().unwrap_or(0)
+}
