@@ -12,6 +12,8 @@ use rules::Refusal;
 use rules::Step;
 use rules::Verdict;
 
+pub mod journals;
+pub mod tracks;
 pub mod words;
 
 // Refusals 2, 4, 6.
@@ -75,7 +77,7 @@ pub extern "C" fn ulz_take<'a, 'b>(
         roles,
     );
     if let Verdict::Refused(r) = v {
-        return words::refusal(r);
+        return words::refusal(r) as u64;
     }
     let m = words::marking(marking);
     let e = Entry {
@@ -127,7 +129,7 @@ pub extern "C" fn ulz_finished<'a, 'b>(
         roles,
     );
     if let Verdict::Refused(r) = v {
-        return words::refusal(r);
+        return words::refusal(r) as u64;
     }
     let o = rules::lent::finished_on(steps, words::marking(marking));
     words::ending(o)

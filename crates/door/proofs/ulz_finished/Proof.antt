@@ -20,6 +20,9 @@ enum-known-v c = search needs
 refusal-requires : tie.Need-refusal-requires
 refusal-requires c κs = search needs
 
+cast-result : tie.Need-cast-result
+cast-result c = search needs
+
 returns : tie.Need-returns
 returns c =
     let a = c .before .before .before .before .before .args in
@@ -57,6 +60,7 @@ ulz-finished-spec =
     check-requires
     enum-known-v
     refusal-requires
+    cast-result
     returns
     enum-told
     marking-requires

@@ -22,6 +22,9 @@ enum-known-v c = search needs
 refusal-requires : tie.Need-refusal-requires
 refusal-requires c κs = search needs
 
+cast-result : tie.Need-cast-result
+cast-result c = search needs
+
 returns : tie.Need-returns
 returns c =
     let a = c .before .before .before .before .before .args in
@@ -65,6 +68,7 @@ ulz-take-spec =
     check-requires
     enum-known-v
     refusal-requires
+    cast-result
     returns
     enum-told
     marking-requires

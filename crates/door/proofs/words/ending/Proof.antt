@@ -17,6 +17,9 @@ enum-known-o c = search needs
 refusal-requires : tie.Need-refusal-requires
 refusal-requires c κs = search needs
 
+cast-result : tie.Need-cast-result
+cast-result c = search needs
+
 returns : tie.Need-returns
 returns c = search needs
 
@@ -29,4 +32,12 @@ returns-3 c = c .refusal .ensures ∙ sym (ap endingWord (c .before .before .o .
 pub ending-spec : {M : Type 1} → statement M
 ending-spec =
     tie.close
-    (tie.spec enum-told enum-told-2 enum-known-o refusal-requires returns returns-2 returns-3)
+    (tie.spec
+    enum-told
+    enum-told-2
+    enum-known-o
+    refusal-requires
+    cast-result
+    returns
+    returns-2
+    returns-3)

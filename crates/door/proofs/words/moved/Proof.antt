@@ -18,6 +18,9 @@ enum-known-o-2 c = search needs
 refusal-requires : tie.Need-refusal-requires
 refusal-requires c κs = search needs
 
+cast-result : tie.Need-cast-result
+cast-result c = search needs
+
 returns : tie.Need-returns
 returns c = (sym (ap moveWord (c .before .before .before .o .given .1)), c .store .ensures ∙ sym (ap (λ (o : Move). markingOut o (c .before .before .before .before .before .args .sets .now)) (c .before .before .before .o .given .1)))
 
@@ -27,4 +30,11 @@ returns-2 c = (c .refusal .ensures ∙ sym (ap moveWord (c .before .before .o2 .
 pub moved-spec : {M : Type 1} → statement M
 moved-spec =
     tie.close
-    (tie.spec enum-known-o store-requires enum-known-o-2 refusal-requires returns returns-2)
+    (tie.spec
+    enum-known-o
+    store-requires
+    enum-known-o-2
+    refusal-requires
+    cast-result
+    returns
+    returns-2)

@@ -14,6 +14,9 @@ enum-known-v c = search needs
 refusal-requires : tie.Need-refusal-requires
 refusal-requires c κs = search needs
 
+cast-result : tie.Need-cast-result
+cast-result c = search needs
+
 returns : tie.Need-returns
 returns c = search needs
 
@@ -21,4 +24,5 @@ returns-2 : tie.Need-returns-2
 returns-2 c = c .refusal .ensures ∙ sym (ap verdictWord (c .before .before .v .given .1))
 
 pub verdict-spec : {M : Type 1} → statement M
-verdict-spec = tie.close (tie.spec enum-told enum-known-v refusal-requires returns returns-2)
+verdict-spec =
+    tie.close (tie.spec enum-told enum-known-v refusal-requires cast-result returns returns-2)

@@ -1,0 +1,67 @@
+-- Running a journal.
+use Prim.Native.Nat.{ℕ, _+_}
+use mathlib.Core.List.{List, [], _∷_, _++_}
+use mathlib.Core.Bool.{not}
+use Rattle.rules.specs.declared.Graph.{Graph}
+use Rattle.rules.specs.declared.Marking.{Marking}
+use Rattle.rules.specs.declared.Entry.{Entry}
+use Rattle.rules.specs.declared.Refusal.the-variants.{Length}
+use Rattle.rules.specs.declared.Verdict.{Verdict}
+use Rattle.rules.specs.declared.Move.{Move}
+use Rattle.rules.specs.First.{Line, first, numberOf, stepOf}
+use Rattle.rules.specs.Graph.{graphLines}
+use Rattle.rules.specs.Move.{entryMove, markingLines, noMarking}
+use Rattle.journal.specs.declared.Ran.{Ran}
+use Rattle.journal.specs.Journal.{entries, lengthFits}
+
+-- entry k in marking m: where it is allowed the run goes on with the marking after, else it stops with the marking before
+unfoldable pub goOn : ℕ → Marking → Move → (Marking → Ran) → Ran
+goOn k m (Move.Moved next) rest = rest next
+goOn k m (Move.Refused r back) rest = Ran.Stopped k r m
+
+-- running stops at the first entry not allowed, and answers that entry's index, its refusal, and the marking before it; if all pass,
+-- the answer is the end marking and the number of entries. Here of the entries from entry k on, in marking m
+unfoldable pub runOn : Graph → Marking → ℕ → List Entry → Ran
+runOn g m k [] = Ran.Ended m k
+runOn g m k (e ∷ rest) = goOn k m (entryMove g m e) (λ next. runOn g next (k + 1) rest)
+
+-- ---- the table, before any entry is looked at
+
+abbrev pub lengthLines : List ℕ → List Line
+lengthLines j = (Length, not (lengthFits j)) ∷ []
+
+abbrev pub runLines : Graph → Marking → List ℕ → List Line
+runLines g m j = graphLines g ++ lengthLines j ++ markingLines g m
+
+-- ---- the answer
+
+-- a refusal below 11 holds zeros in every further place
+unfoldable pub runOf : Verdict → Ran → Ran
+runOf Verdict.Clear ran = ran
+runOf (Verdict.Refused r) ran = Ran.Stopped 0 r noMarking
+
+-- any journal on anything
+unfoldable pub theRun : Graph → Marking → List ℕ → Ran
+theRun g m j = runOf (first (runLines g m j)) (runOn g m 0 (entries j))
+
+-- ---- document 01's number and values of each case
+
+-- 0 where all pass
+unfoldable pub numberOfRun : Ran → ℕ
+numberOfRun (Ran.Ended m k) = 0
+numberOfRun (Ran.Stopped k r m) = numberOf r
+
+-- the number of entries, or the index of the refused one
+unfoldable pub indexOfRun : Ran → ℕ
+indexOfRun (Ran.Ended m k) = k
+indexOfRun (Ran.Stopped k r m) = k
+
+-- the waiting step of 15
+unfoldable pub stepOfRun : Ran → ℕ
+stepOfRun (Ran.Ended m k) = 0
+stepOfRun (Ran.Stopped k r m) = stepOf r
+
+-- the end marking, or the marking before the refused entry
+unfoldable pub markingOfRun : Ran → Marking
+markingOfRun (Ran.Ended m k) = m
+markingOfRun (Ran.Stopped k r m) = m

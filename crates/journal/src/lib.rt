@@ -1,0 +1,87 @@
+// Journals: entries of three bytes, read, run and walked.
+ghost use mathlib.Core.Path.{_≡_};
+ghost use Rattle.journal.specs.Run.{theRun};
+ghost use Rattle.journal.specs.Walk.{strideAt};
+use rules::Entry;
+use rules::Graph;
+use rules::Marking;
+use rules::Refusal;
+
+pub mod inner;
+pub mod lent;
+
+// All entries pass, with the end marking and their number; or the first that is not allowed, with its index, its refusal and
+// the marking before it (below 11: zeros).
+pub enum Ran {
+    Ended(Marking, u16),
+    Stopped(u16, Refusal, Marking),
+}
+
+// What a walk says: the entry at its place; that there is none left; or 7.
+pub enum Walked {
+    At(Entry),
+    End,
+    Refused(Refusal),
+}
+
+// A walk keeps hold of the lent journal and of its place in it, the number of entries handed out.
+pub struct Walk<'a> {
+    pub journal: &'a [u8],
+    pub place: usize,
+}
+
+// What a walk says, and its next place.
+pub struct Stride {
+    pub said: Walked,
+    pub place: usize,
+}
+
+// Run a journal from a marking. Refusals 2, 4, 6, 7, 8, then 11 to 15 of the earliest refused entry.
+pub fn run(g: Graph, m: Marking, j: &[u8]) -> Ran
+    ensures { λ r. ⌜ r ≡ theRun g m (now (j .entry)) ⌝ }
+{
+    lent::run(
+        g.steps,
+        g.people,
+        g.roles,
+        &g.allows,
+        &g.holds,
+        &g.conditions,
+        &g.responses,
+        &g.includes,
+        &g.excludes,
+        m,
+        j,
+    )
+}
+
+// A walk at the start of a journal. It always succeeds.
+pub fn new<'a>(journal: &'a [u8]) -> Walk<'a>
+    ensures { λ w. ⌜ (w .journal ≡ journal .entry) × (w .place ≡ 0) ⌝ }
+{
+    Walk { journal, place: 0 }
+}
+
+// What the walk says; its place moves behind the entry that it hands out, and stays put otherwise. Refusal 7.
+pub fn next<'s, 'a>(w: &'s mut Walk<'a>) -> Walked
+    ensures { λ r. ⌜ (r ≡ strideAt (now (now (w .entry) .journal)) (now (w .entry) .place) .said)
+        × (now (w .exit) .journal ≡ now (w .entry) .journal)
+        × (now (w .exit) .place ≡ strideAt (now (now (w .entry) .journal)) (now (w .entry) .place) .place) ⌝ }
+{
+    let o = inner::step_at(w.journal, w.place);
+    w.place = o.place;
+    o.said
+}
+
+// One call of a walk over `j` that stands at `place`: for callers who keep the place themselves. Refusal 7.
+pub fn walk_at(j: &[u8], place: usize) -> Stride
+    ensures { λ r. ⌜ r ≡ strideAt (now (j .entry)) place ⌝ }
+{
+    let mut w = new(j);
+    w.place = place;
+    let said = next(&mut w);
+    Stride {
+        said: said,
+        place: w.place,
+    }
+}

@@ -1,0 +1,16 @@
+-- The kept marking: one marking, which an allowed entry alters where it lies.
+use Rattle.rules.specs.declared.Graph.{Graph}
+use Rattle.rules.specs.declared.Marking.{Marking}
+use Rattle.rules.specs.declared.Entry.{Entry}
+use Rattle.rules.specs.declared.Move.{Move}
+use Rattle.rules.specs.Move.{theMove}
+use Rattle.kept.specs.declared.Kept.{Kept}
+
+-- an allowed entry alters it; a refused entry leaves its three sets untouched
+unfoldable pub keptBy : Marking → Move → Marking
+keptBy m (Move.Moved next) = next
+keptBy m (Move.Refused r back) = m
+
+-- the same answers as the move, and the marking that lies there then
+unfoldable pub theKept : Graph → Marking → Entry → Kept
+theKept g m e = record { answer = theMove g m e; marking = keptBy m (theMove g m e) }

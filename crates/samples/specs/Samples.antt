@@ -1,0 +1,48 @@
+-- Document 01's samples, as one statement over a list of them. Each is about the definitions that the calls promise. Assumes nothing.
+use Prim.Native.Nat.{ℕ}
+use mathlib.Core.Path.{_≡_, refl}
+use mathlib.Core.List.{List, [], _∷_}
+use mathlib.Core.Bool.{true, false}
+use Rattle.sets.specs.Sets.{has, full, scan, lowest, every}
+use Rattle.rules.specs.First.{first, numberOf, stepOf}
+use Rattle.rules.specs.Graph.{keeps, setsFit}
+use Rattle.rules.specs.Move.{theMove, moveOf, isFinished}
+use Rattle.tracker.specs.Tracker.{theStart, theStep, trackAfter, trackedOf}
+use Rattle.samples.specs.Job.{set, rows, targets, sources, table, given, job, start, entry, reboot, check, publish, rebooted, checked, at, tracking}
+
+-- a sample: its number in document 01, and what it says
+abbrev pub Sample : Type 1
+Sample = ℕ × Type 0
+
+-- each sample of a list holds
+abbrev pub Hold : List Sample → Type 0
+Hold [] = Unit {0}
+Hold (s ∷ rest) = s .1 × Hold rest
+
+infixr 5 _also_
+abbrev _also_ : {A B : Type 0} → A → B → A × B
+a also b = (a, b)
+
+unfoldable pub samples : List Sample
+samples =
+    -- S1: (1,2,1) at start: 15, waits for 1
+    (1, given (theMove job start publish) ≡ (15, 1, start))
+    -- S2: (0,0,0): Ex {0}, Re {1}, In {0,1}; not finished
+    ∷ (2, (given (theMove job start reboot) ≡ (0, 0, rebooted)) × (isFinished rebooted ≡ false))
+    -- S3: (1,2,1) after S2: 14
+    ∷ (3, given (theMove job rebooted publish) ≡ (14, 0, rebooted))
+    -- S4: (0,1,0) after S2: Ex {0,1}, Re empty, In {0,1,2}; finished
+    ∷ (4, (given (theMove job rebooted check) ≡ (0, 0, checked)) × (isFinished checked ≡ true))
+    -- S5: (1,1,1): 13
+    ∷ (5, given (theMove job start (entry 1 1 1)) ≡ (13, 0, start))
+    -- S6: (1,1,0): 12
+    ∷ (6, given (theMove job start (entry 1 1 0)) ≡ (12, 0, start))
+    -- S7: (2,0,0): 11
+    ∷ (7, given (theMove job start (entry 2 0 0)) ≡ (11, 0, start))
+    -- S13: tracker from start, reboot: i 1, flag down; then check: i 2, flag up
+    ∷ (13, (tracking job (theStart job start) reboot ≡ at rebooted 1 false) × (tracking job (tracking job (theStart job start) reboot) check ≡ at checked 2 true))
+    ∷ []
+
+pub samples-hold : Hold samples
+unfolding samples set rows targets sources table given job tracking first numberOf stepOf keeps setsFit theMove moveOf theStart theStep trackAfter trackedOf has full scan lowest every
+samples-hold = refl also (refl, refl) also refl also (refl, refl) also refl also refl also refl also (refl, refl) also tt

@@ -1,0 +1,110 @@
+-- The tracker (Definition 7), as document 01 says it. A state is a marking, a rank i in 1..n, and a flag.
+use Prim.Native.Nat.{ℕ, _+_}
+use mathlib.Core.List.{List, [], _∷_, _++_}
+use mathlib.Core.Bool.{Bool, true, not, _&&_, _||_, cond}
+use lib.Dec.{eqb, leb}
+use Rattle.sets.specs.Sets.{has, meet, minus, empty, full, lowest}
+use Rattle.rules.specs.declared.Graph.{Graph}
+use Rattle.rules.specs.declared.Marking.{Marking}
+use Rattle.rules.specs.declared.Rank.{Rank}
+use Rattle.rules.specs.declared.Entry.{Entry}
+use Rattle.rules.specs.declared.Verdict.{Verdict}
+use Rattle.rules.specs.declared.Refusal.the-variants.{NoRank}
+use Rattle.rules.specs.First.{Line, first, numberOf}
+use Rattle.rules.specs.Graph.{graphLines, within1to}
+use Rattle.rules.specs.Move.{rowOf, after, isFinished, markingLines, entryLines}
+use Rattle.tracker.specs.declared.Track.{Track}
+use Rattle.tracker.specs.declared.Tracked.{Tracked}
+
+-- "Step s has rank s + 1."
+abbrev pub rankOf : ℕ → Rank
+rankOf s = record { 0 = s + 1 }
+
+-- "A rank i in 1..n."
+abbrev pub isRank : ℕ → ℕ → Bool
+isRank n i = within1to i n
+
+-- ---- start and idle move
+
+-- "At the start i is 1 and the flag is up exactly if the job is finished."
+abbrev pub begin : Marking → Track
+begin m = record { marking = m; rank = record { 0 = 1 }; flag = isFinished m }
+
+-- "An idle move keeps marking and i, and sets the flag by the finished test."
+abbrev pub rest : Track → Track
+rest t = record { marking = t .marking; rank = t .rank; flag = isFinished (t .marking) }
+
+-- ---- a step e
+
+-- P and P″: "the steps due and included" before and after
+abbrev pub pending : Marking → ℕ
+pending m = meet (m .due) (m .included)
+
+-- H: "those of P with rank above i". The steps of rank at most i are the i steps below number i
+abbrev pub above : ℕ → ℕ → ℕ
+above i P = minus P (full i)
+
+-- "Let x be the lowest of H, or if H is empty the lowest of P": x is the lowest of these, and exists exactly if there are any
+abbrev pub pool : ℕ → ℕ → ℕ
+pool i P = cond (empty (above i P)) P (above i P)
+
+-- "x is e or is not in P″"
+abbrev pub meets : ℕ → ℕ → ℕ → Bool
+meets x e P″ = eqb x e || not (has P″ x)
+
+-- "x exists and x is e or is not in P″"
+abbrev pub served : ℕ → ℕ → ℕ → ℕ → Bool
+served i P P″ e = not (empty (pool i P)) && meets (lowest 64 (pool i P)) e P″
+
+-- "then i becomes x's rank and the flag is up. Otherwise i stays and the flag is up exactly if P″ is empty."
+unfoldable pub trackAfter : Track → Marking → ℕ → Track
+trackAfter t next e =
+    let i = t .rank .0 in
+    let P = pending (t .marking) in
+    let P″ = pending next in
+    let x = lowest 64 (pool i P) in
+    record {
+      marking = next;
+      rank = cond (served i P P″ e) (rankOf x) (t .rank);
+      flag = cond (served i P P″ e) true (empty P″);
+    }
+
+-- ---- the tables
+
+-- 2, 4, 6, 8
+abbrev pub startLines : Graph → Marking → List Line
+startLines g m = graphLines g ++ markingLines g m
+
+abbrev pub rankLines : Graph → Rank → List Line
+rankLines g i = (NoRank, not (isRank (g .steps) (i .0))) ∷ []
+
+-- 2, 4, 6, 8, 9
+abbrev pub idleLines : Graph → Track → List Line
+idleLines g t = startLines g (t .marking) ++ rankLines g (t .rank)
+
+-- 2, 4, 6, 8, 9, 11 to 15
+abbrev pub stepLines : Graph → Track → Entry → List Line
+stepLines g t e = startLines g (t .marking) ++ rankLines g (t .rank) ++ entryLines g (t .marking) e
+
+-- ---- the answers
+
+-- nothing against it: the state after. Else the refusal, from 11 on with the state handed in, below 11 with none, so that no rank is 0
+unfoldable pub trackedOf : Verdict → Track → Track → Tracked
+trackedOf Verdict.Clear before next = Tracked.At next
+trackedOf (Verdict.Refused r) before next = cond (leb 11 (numberOf r)) (Tracked.Stays r before) (Tracked.Refused r)
+
+unfoldable pub theStart : Graph → Marking → Tracked
+theStart g m = trackedOf (first (startLines g m)) (begin m) (begin m)
+
+unfoldable pub theIdle : Graph → Track → Tracked
+theIdle g t = trackedOf (first (idleLines g t)) t (rest t)
+
+unfoldable pub theStep : Graph → Track → Entry → Tracked
+theStep g t e =
+    trackedOf (first (stepLines g t e)) t (trackAfter t (after (rowOf g (e .person) (e .step .0)) (t .marking) (e .step .0)) (e .step .0))
+
+-- the number of an answer: 0 where there is a state after
+unfoldable pub numberAnswered : Tracked → ℕ
+numberAnswered (Tracked.At t) = 0
+numberAnswered (Tracked.Refused r) = numberOf r
+numberAnswered (Tracked.Stays r t) = numberOf r
