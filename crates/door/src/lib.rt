@@ -12,7 +12,9 @@ use rules::Refusal;
 use rules::Step;
 use rules::Verdict;
 
+pub mod folded;
 pub mod journals;
+pub mod records_words;
 pub mod tracks;
 pub mod words;
 

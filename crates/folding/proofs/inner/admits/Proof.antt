@@ -1,0 +1,21 @@
+-- `inner::admits`: a role is in both sets exactly if it is in what they have in common. Assumes nothing.
+use mathlib.Core.Path.{_∙_}
+use borrow.Author.Needs.{needs}
+use Rattle.sets.specs.Laws.{has-meet}
+use Rattle.folding.proofs.inner.admits.Statement.{statement}
+use Rattle.folding.proofs.inner.admits.Tie as tie
+
+cast-held : tie.Need-cast-held
+cast-held c = search needs
+
+cast-allows : tie.Need-cast-allows
+cast-allows c = search needs
+
+has-requires : tie.Need-has-requires
+has-requires c κs = search needs
+
+returns : tie.Need-returns
+returns c = c .has .ensures ∙ has-meet (c .before .before .before .args .w .held) (c .before .before .before .args .w .allows) (c .before .before .before .args .role)
+
+pub admits-spec : {M : Type 1} → statement M
+admits-spec = tie.close (tie.spec cast-held cast-allows has-requires returns)

@@ -1,0 +1,69 @@
+-- Folding entries (document 01, "Folded records"): what one entry folds to, and a list of them.
+use Prim.Native.Nat.{ℕ}
+use mathlib.Core.List.{List, [], _∷_}
+use mathlib.Core.Bool.{Bool, false, _&&_, cond}
+use mathlib.Core.Option.{Option, none, some, bind}
+use Rattle.sets.specs.Sets.{single, minus}
+use Rattle.rules.specs.declared.Graph.{Graph}
+use Rattle.rules.specs.declared.inner.Row.{Row}
+use Rattle.rules.specs.declared.Marking.{Marking}
+use Rattle.rules.specs.declared.Entry.{Entry}
+use Rattle.rules.specs.declared.Move.{Move}
+use Rattle.rules.specs.Move.{rowOf, known, personHolds, stepHas, after, entryMove}
+use Rattle.records.specs.declared.Record.{Record}
+use Rattle.records.specs.Records.{identity, impossible, compose, tidy, join}
+
+-- what an entry meets of the graph
+abbrev pub rowAt : Graph → Entry → Row
+rowAt g e = rowOf g (e .person) (e .step .0)
+
+-- step s needs to be included, and each of its conditions excluded or done. It becomes done and no longer due; then its responses
+-- are due, the steps it includes are included, and those it excludes are not
+abbrev pub stepRecord : Row → ℕ → Record
+stepRecord w s =
+    record {
+      never = false;
+      needin = single s;
+      needex = 0;
+      needout = w .conditions;
+      done = single s;
+      dueset = w .responses;
+      dueclear = single s;
+      inset = minus (w .includes) (w .excludes);
+      inclear = w .excludes;
+    }
+
+-- "An entry that no marking could allow: unknown number, role not held, role not on the step"
+abbrev pub possible : Graph → Entry → Bool
+possible g e = known g e && personHolds (rowAt g e) e && stepHas (rowAt g e) e
+
+-- what an entry needs and does
+unfoldable pub entryRecord : Graph → Entry → Record
+entryRecord g e = cond (possible g e) (stepRecord (rowAt g e) (e .step .0)) impossible
+
+-- The fold of a list of entries is the join over them. "The empty journal folds to the identity."
+unfoldable pub foldOf : Graph → List Entry → Record
+foldOf g [] = identity
+foldOf g (e ∷ rest) = join (tidy (entryRecord g e)) (foldOf g rest)
+
+-- ---- the entries, one by one
+
+-- the marking after an allowed entry
+unfoldable pub movedTo : Move → Option Marking
+movedTo (Move.Moved next) = some next
+movedTo (Move.Refused r back) = none
+
+-- the end marking, if every entry is allowed
+unfoldable pub passes : Graph → Marking → List Entry → Option Marking
+passes g m [] = some m
+passes g m (e ∷ rest) = bind (movedTo (entryMove g m e)) (λ next. passes g next rest)
+
+-- the marking after the steps of all the entries, allowed or not
+unfoldable pub afterAll : Graph → Marking → List Entry → Marking
+afterAll g m [] = m
+afterAll g m (e ∷ rest) = afterAll g (after (rowAt g e) m (e .step .0)) rest
+
+-- and what they do together, as a record
+unfoldable pub effect : Graph → List Entry → Record
+effect g [] = identity
+effect g (e ∷ rest) = compose (stepRecord (rowAt g e) (e .step .0)) (effect g rest)

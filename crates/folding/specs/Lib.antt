@@ -1,0 +1,4 @@
+pub mod Fold
+pub mod Answers
+pub mod Laws
+pub mod Answered

@@ -1,0 +1,46 @@
+-- `eight`: the low half, and the high half times what it weighs. Assumes nothing.
+use Prim.Native.Nat.{ℕ, _+_, _*_}
+use mathlib.Core.Path.{_∙_, sym, ap₂}
+use borrow.Author.Needs.{needs}
+use Rattle.numbers.specs.Laws.{number-add}
+use Rattle.numbers.proofs.eight.Statement.{statement}
+use Rattle.numbers.proofs.eight.Tie as tie
+
+four-requires : tie.Need-four-requires
+four-requires c κs = search needs
+
+cast-result : tie.Need-cast-result
+cast-result c = search needs
+
+add-four : tie.Need-add-four
+add-four c = search needs
+
+four-requires-2 : tie.Need-four-requires-2
+four-requires-2 c κs = search needs
+
+cast-result-2 : tie.Need-cast-result-2
+cast-result-2 c = search needs
+
+mul-result : tie.Need-mul-result
+mul-result c = search needs
+
+add-result : tie.Need-add-result
+add-result c = search needs
+
+returns : tie.Need-returns
+returns c =
+    let a = c .before .before .before .args in
+    ap₂ (λ (x y : ℕ). x + 4294967296 * y) (c .before .four .ensures) (c .four2 .ensures) ∙ sym (number-add 4 4 (a .at) (a .s .now))
+
+pub eight-spec : {M : Type 1} → statement M
+eight-spec =
+    tie.close
+    (tie.spec
+    four-requires
+    cast-result
+    add-four
+    four-requires-2
+    cast-result-2
+    mul-result
+    add-result
+    returns)

@@ -1,0 +1,46 @@
+-- `four`: the low half, and the high half times what it weighs. Assumes nothing.
+use Prim.Native.Nat.{ℕ, _+_, _*_}
+use mathlib.Core.Path.{_∙_, sym, ap₂}
+use borrow.Author.Needs.{needs}
+use Rattle.numbers.specs.Laws.{number-add}
+use Rattle.numbers.proofs.four.Statement.{statement}
+use Rattle.numbers.proofs.four.Tie as tie
+
+two-requires : tie.Need-two-requires
+two-requires c κs = search needs
+
+cast-result : tie.Need-cast-result
+cast-result c = search needs
+
+add-two : tie.Need-add-two
+add-two c = search needs
+
+two-requires-2 : tie.Need-two-requires-2
+two-requires-2 c κs = search needs
+
+cast-result-2 : tie.Need-cast-result-2
+cast-result-2 c = search needs
+
+mul-result : tie.Need-mul-result
+mul-result c = search needs
+
+add-result : tie.Need-add-result
+add-result c = search needs
+
+returns : tie.Need-returns
+returns c =
+    let a = c .before .before .before .args in
+    ap₂ (λ (x y : ℕ). x + 65536 * y) (c .before .two .ensures) (c .two2 .ensures) ∙ sym (number-add 2 2 (a .at) (a .s .now))
+
+pub four-spec : {M : Type 1} → statement M
+four-spec =
+    tie.close
+    (tie.spec
+    two-requires
+    cast-result
+    add-two
+    two-requires-2
+    cast-result-2
+    mul-result
+    add-result
+    returns)

@@ -1,0 +1,60 @@
+-- `Record::apply`: the tests are the table's lines, in its order. Assumes nothing.
+use mathlib.Core.Path.{sym, ap, _∙_}
+use mathlib.Core.Bool.{not}
+use borrow.Author.Needs.{needs}
+use borrow.Author.Tests.{not-false}
+use Rattle.rules.specs.First.{first, numberOf}
+use Rattle.records.specs.Answers.{theApplication, appliedOf}
+use Rattle.records.specs.Answered.{counts-most}
+use Rattle.records.proofs.Record.apply.Statement.{statement}
+use Rattle.records.proofs.Record.apply.Tie as tie
+
+counts-requires : tie.Need-counts-requires
+counts-requires c κs = search needs
+
+returns : tie.Need-returns
+unfolding theApplication appliedOf first numberOf
+returns c = simp (ap not (sym (c .before .counts .ensures)) ∙ c .if1 .taken)
+
+fits-requires : tie.Need-fits-requires
+fits-requires c κs = counts-most (c .before .before .args .n) (sym (c .before .counts .ensures) ∙ not-false _ (c .if1 .left))
+
+returns-2 : tie.Need-returns-2
+unfolding theApplication appliedOf first numberOf
+returns-2 c = simp (ap not (sym (c .before .before .before .counts .ensures)) ∙ c .before .before .if1 .left, ap not (sym (c .before .fits2 .ensures)) ∙ c .if2 .taken)
+
+well-formed-requires : tie.Need-well-formed-requires
+well-formed-requires c κs = counts-most (c .before .before .before .before .args .n) (sym (c .before .before .before .counts .ensures) ∙ not-false _ (c .before .before .if1 .left))
+
+returns-3 : tie.Need-returns-3
+unfolding theApplication appliedOf first numberOf
+returns-3 c = simp (ap not (sym (c .before .before .before .before .before .counts .ensures)) ∙ c .before .before .before .before .if1 .left, ap not (sym (c .before .before .before .fits2 .ensures)) ∙ c .before .before .if2 .left, ap not (sym (c .before .well-formed .ensures)) ∙ c .if3 .taken)
+
+suits-requires : tie.Need-suits-requires
+suits-requires c κs = search needs
+
+returns-4 : tie.Need-returns-4
+unfolding theApplication appliedOf first numberOf
+returns-4 c = simp (ap not (sym (c .before .before .before .before .before .before .before .counts .ensures)) ∙ c .before .before .before .before .before .before .if1 .left, ap not (sym (c .before .before .before .before .before .fits2 .ensures)) ∙ c .before .before .before .before .if2 .left, ap not (sym (c .before .before .before .well-formed .ensures)) ∙ c .before .before .if3 .left, ap not (sym (c .before .suits .ensures)) ∙ c .if4 .taken)
+
+given-requires : tie.Need-given-requires
+given-requires c κs = search needs
+
+returns-5 : tie.Need-returns-5
+unfolding theApplication appliedOf first numberOf
+returns-5 c = simp (ap not (sym (c .before .before .before .before .before .before .before .before .counts .ensures)) ∙ c .before .before .before .before .before .before .before .if1 .left, ap not (sym (c .before .before .before .before .before .before .fits2 .ensures)) ∙ c .before .before .before .before .before .if2 .left, ap not (sym (c .before .before .before .before .well-formed .ensures)) ∙ c .before .before .before .if3 .left, ap not (sym (c .before .before .suits .ensures)) ∙ c .before .if4 .left, c .given .ensures)
+
+pub apply-spec : {M : Type 1} → statement M
+apply-spec =
+    tie.close
+    (tie.spec
+    counts-requires
+    returns
+    fits-requires
+    returns-2
+    well-formed-requires
+    returns-3
+    suits-requires
+    returns-4
+    given-requires
+    returns-5)

@@ -1,0 +1,46 @@
+-- What the calls answer: the table "Numbers on the door" for each, in its order, and the answer.
+use Prim.Native.Nat.{ℕ}
+use mathlib.Core.List.{List, [], _∷_}
+use mathlib.Core.Bool.{Bool, not, _&&_, cond}
+use lib.Dec.{leb}
+use Rattle.rules.specs.declared.Marking.{Marking}
+use Rattle.rules.specs.declared.Refusal.the-variants.{Counts, Outside, IllFormed, NotApplied}
+use Rattle.rules.specs.declared.Verdict.{Verdict}
+use Rattle.rules.specs.First.{Line, first, numberOf}
+use Rattle.rules.specs.Graph.{within1to}
+use Rattle.rules.specs.Move.{markingFits, noMarking}
+use Rattle.records.specs.declared.Record.{Record}
+use Rattle.records.specs.declared.Recorded.{Recorded}
+use Rattle.records.specs.declared.Applied.{Applied}
+use Rattle.records.specs.Records.{applies, gives, wellFormed, join}
+
+-- a record where nothing is against it; a refusal has no place for one
+unfoldable pub recordedOf : Verdict → Record → Recorded
+recordedOf Verdict.Clear r = Recorded.Made r
+recordedOf (Verdict.Refused q) r = Recorded.Refused q
+
+-- ---- join: 2, 10
+
+abbrev pub joinLines : ℕ → Record → Record → List Line
+joinLines n a b = (Counts, not (within1to n 64)) ∷ (IllFormed, not (wellFormed n a && wellFormed n b)) ∷ []
+
+unfoldable pub theJoin : ℕ → Record → Record → Recorded
+theJoin n a b = recordedOf (first (joinLines n a b)) (join a b)
+
+-- ---- apply: 2, 8, 10, 16
+
+abbrev pub applyLines : ℕ → Record → Marking → List Line
+applyLines n r m =
+    (Counts, not (within1to n 64))
+    ∷ (Outside, not (markingFits n m))
+    ∷ (IllFormed, not (wellFormed n r))
+    ∷ (NotApplied, not (applies r m))
+    ∷ []
+
+-- 16 gives back the marking handed in; below 11 zeros
+unfoldable pub appliedOf : Verdict → Marking → Marking → Applied
+appliedOf Verdict.Clear before next = Applied.Gives next
+appliedOf (Verdict.Refused q) before next = Applied.Refused q (cond (leb 11 (numberOf q)) before noMarking)
+
+unfoldable pub theApplication : ℕ → Record → Marking → Applied
+theApplication n r m = appliedOf (first (applyLines n r m)) m (gives r m)

@@ -1,0 +1,10 @@
+pub mod More
+pub mod Records
+pub mod Answers
+pub mod Bytes
+pub mod Laws
+pub mod WellFormed
+pub mod Unique
+pub mod Theorems
+pub mod Answered
+pub mod Spelling

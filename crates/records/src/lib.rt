@@ -1,0 +1,120 @@
+// Folded records: what a journal needs and does, without the journal.
+ghost use mathlib.Core.Path.{_≡_};
+ghost use Rattle.records.specs.Answers.{theJoin, theApplication};
+ghost use Rattle.records.specs.Bytes.{theReading, Writing};
+use rules::Marking;
+use rules::Refusal;
+use rules::Verdict;
+
+pub mod inner;
+pub mod layout;
+
+// What is needed of a marking, and what is then done to it. Never: no marking will do.
+pub struct Record {
+    pub never: bool,
+    pub needin: u64,
+    pub needex: u64,
+    pub needout: u64,
+    pub done: u64,
+    pub dueset: u64,
+    pub dueclear: u64,
+    pub inset: u64,
+    pub inclear: u64,
+}
+
+// A record, or why there is none. A refusal holds no record.
+pub enum Recorded {
+    Made(Record),
+    Refused(Refusal),
+}
+
+// A record applied, with the marking after; or refused, with the marking handed in (below 11: an empty one).
+pub enum Applied {
+    Gives(Marking),
+    Refused(Refusal, Marking),
+}
+
+impl Record {
+    // The record of the empty journal.
+    pub const IDENTITY: Record = Record {
+        never: false,
+        needin: 0,
+        needex: 0,
+        needout: 0,
+        done: 0,
+        dueset: 0,
+        dueclear: 0,
+        inset: 0,
+        inclear: 0,
+    };
+
+    // This record, then the other, for n steps. Refusals 2, 10.
+    pub fn join(self, other: Record, n: u8) -> Recorded
+        ensures { λ r. ⌜ r ≡ theJoin n self other ⌝ }
+    {
+        if !inner::counts(n) {
+            return Recorded::Refused(Refusal::Counts);
+        }
+        let good = inner::well_formed(n, self) & inner::well_formed(n, other);
+        if !good {
+            return Recorded::Refused(Refusal::IllFormed);
+        }
+        Recorded::Made(inner::joined(self, other))
+    }
+
+    // This record at a marking of n steps. Refusals 2, 8, 10, 16.
+    pub fn apply(self, m: Marking, n: u8) -> Applied
+        ensures { λ r. ⌜ r ≡ theApplication n self m ⌝ }
+    {
+        if !inner::counts(n) {
+            return Applied::Refused(Refusal::Counts, inner::NONE);
+        }
+        if !rules::inner::fits(n, m) {
+            return Applied::Refused(Refusal::Outside, inner::NONE);
+        }
+        if !inner::well_formed(n, self) {
+            return Applied::Refused(Refusal::IllFormed, inner::NONE);
+        }
+        if !inner::suits(self, m) {
+            return Applied::Refused(Refusal::NotApplied, m);
+        }
+        Applied::Gives(inner::given(self, m))
+    }
+}
+
+// The record of n steps that the bytes spell. Refusals 2, 10.
+pub fn read(n: u8, s: &[u8]) -> Recorded
+    ensures { λ r. ⌜ r ≡ theReading n (now (s .entry)) ⌝ }
+{
+    if !inner::counts(n) {
+        return Recorded::Refused(Refusal::Counts);
+    }
+    if s.len() != 65 {
+        return Recorded::Refused(Refusal::IllFormed);
+    }
+    if 1 < s[0] {
+        return Recorded::Refused(Refusal::IllFormed);
+    }
+    let r = layout::record_at(s);
+    if !inner::well_formed(n, r) {
+        return Recorded::Refused(Refusal::IllFormed);
+    }
+    Recorded::Made(r)
+}
+
+// A record of n steps into the first 65 bytes of the room. Refusals 2, 10, 18.
+pub fn write(n: u8, r: Record, room: &mut [u8]) -> Verdict
+    ensures { λ v. ⌜ Writing n r (now (room .entry)) v (now (room .exit)) ⌝ }
+{
+    if !inner::counts(n) {
+        return Verdict::Refused(Refusal::Counts);
+    }
+    if !inner::well_formed(n, r) {
+        return Verdict::Refused(Refusal::IllFormed);
+    }
+    if room.len() < 65 {
+        return Verdict::Refused(Refusal::Room);
+    }
+    layout::spell(r, room);
+    Verdict::Clear
+}
