@@ -1,2 +1,3 @@
 pub mod Words
 pub mod Folded
+pub mod Lapped

@@ -12,6 +12,7 @@ use rules::Refusal;
 use rules::Step;
 use rules::Verdict;
 
+pub mod endless;
 pub mod folded;
 pub mod journals;
 pub mod records_words;

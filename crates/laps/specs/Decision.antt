@@ -1,0 +1,70 @@
+-- What the code decides by: the stem and the lap twice, and the steps that stay due and included, and are not done, through the second lap.
+-- Nothing here has to be believed: specs/Laws.antt shows that it is the answer.
+use Prim.Native.Nat.{ℕ, _+_}
+use mathlib.Core.List.{List, [], _∷_}
+use mathlib.Core.Bool.{cond}
+use Rattle.sets.specs.Sets.{single, meet, minus, empty, full, lowest}
+use Rattle.rules.specs.declared.Graph.{Graph}
+use Rattle.rules.specs.declared.Marking.{Marking}
+use Rattle.rules.specs.declared.Entry.{Entry}
+use Rattle.rules.specs.declared.Verdict.{Verdict}
+use Rattle.rules.specs.declared.Move.{Move}
+use Rattle.rules.specs.First.{first}
+use Rattle.rules.specs.Move.{entryMove}
+use Rattle.journal.specs.Journal.{entries}
+use Rattle.laps.specs.declared.Lapped.{Lapped}
+use Rattle.laps.specs.declared.Pass.{Pass}
+use Rattle.laps.specs.declared.lent.Leg.{Leg}
+use Rattle.laps.specs.Laps.{lapLines}
+
+-- the steps of x that are due and included in m, less s
+abbrev pub still : ℕ → Marking → ℕ → ℕ
+still x m s = minus (meet x (meet (m .due) (m .included))) (single s)
+
+-- entry k in marking m: where it is allowed the leg goes on with the marking after, else it ends there
+unfoldable pub goOn : ℕ → ℕ → Marking → Move → (Marking → Leg) → Leg
+goOn k x m (Move.Moved next) rest = rest next
+goOn k x m (Move.Refused r back) rest = record { verdict = Verdict.Refused r; index = k; at = m; left = x }
+
+-- through the entries from entry k on, in marking m, with x left so far
+unfoldable pub legOn : Graph → Marking → ℕ → ℕ → List Entry → Leg
+legOn g m x k [] = record { verdict = Verdict.Clear; index = k; at = m; left = x }
+legOn g m x k (e ∷ rest) = goOn k x m (entryMove g m e) (λ next. legOn g next (still x m (e .step .0)) (k + 1) rest)
+
+abbrev pub legOf : Graph → Marking → List Entry → Leg
+legOf g m es = legOn g m (full 64) 0 es
+
+-- nothing against the leg: what follows. Else the answer
+unfoldable pub upon : Verdict → ℕ → Pass → Lapped → Lapped
+upon Verdict.Clear k p rest = rest
+upon (Verdict.Refused r) k p rest = Lapped.Stopped k p r
+
+-- x stay due and included and are not done
+abbrev pub judged : ℕ → Lapped
+judged x = cond (empty x) Lapped.Accepted (Lapped.Starved (record { 0 = lowest 64 x }))
+
+-- the answer where the second lap, the first or the stem is stopped; else by what is left of the second lap
+abbrev pub fromSecond : Leg → Lapped
+fromSecond c = upon (c .verdict) (c .index) Pass.Second (judged (c .left))
+
+abbrev pub fromFirst : Leg → Leg → Lapped
+fromFirst b c = upon (b .verdict) (b .index) Pass.First (fromSecond c)
+
+abbrev pub fromStem : Leg → Leg → Leg → Lapped
+fromStem a b c = upon (a .verdict) (a .index) Pass.Stem (fromFirst b c)
+
+unfoldable pub decision : Graph → Marking → List Entry → List Entry → Lapped
+decision g m stem lap =
+    let a = legOf g m stem in
+    let b = legOf g (a .at) lap in
+    let c = legOf g (b .at) lap in
+    fromStem a b c
+
+-- before any entry is looked at, the table
+unfoldable pub lapOf : Verdict → Lapped → Lapped
+lapOf Verdict.Clear o = o
+lapOf (Verdict.Refused r) o = Lapped.Refused r
+
+-- any stem and lap on anything
+unfoldable pub theLap : Graph → Marking → List ℕ → List ℕ → Lapped
+theLap g m stem lap = lapOf (first (lapLines g m stem lap)) (decision g m (entries stem) (entries lap))

@@ -1,0 +1,102 @@
+-- A stem and a lap: "the run is the stem, then the lap without end" (document 01, "Journals and laps").
+use Prim.Native.Nat.{ℕ, _+_, _-_, _%_}
+use mathlib.Core.Path.{_≡_}
+use mathlib.Core.List.{List, [], _∷_, _++_}
+use mathlib.Core.Bool.{not, _&&_, cond}
+use lib.ListN.{length, getD}
+use lib.Dec.{eqb, ltb}
+use Rattle.rules.specs.declared.Graph.{Graph}
+use Rattle.rules.specs.declared.Marking.{Marking}
+use Rattle.rules.specs.declared.Entry.{Entry}
+use Rattle.rules.specs.declared.Refusal.{Refusal}
+use Rattle.rules.specs.declared.Refusal.the-variants.{Length, EmptyLap}
+use Rattle.rules.specs.declared.Verdict.{Verdict}
+use Rattle.rules.specs.First.{Line, first, numberOf, stepOf}
+use Rattle.rules.specs.Graph.{graphLines}
+use Rattle.rules.specs.Move.{markingLines}
+use Rattle.journal.specs.Journal.{entryOf, entries, lengthFits}
+use Rattle.laps.specs.declared.Lapped.{Lapped}
+use Rattle.laps.specs.declared.Pass.{Pass}
+use Rattle.laps.specs.Endless.{RefusedAt, GoesOn, Accepting, Starves}
+
+-- ---- the run
+
+-- the entry at position i of stem, lap, lap, .. (the lap has at least one entry)
+unfoldable pub runOf : List Entry → List Entry → ℕ → Entry
+runOf stem lap i = cond (ltb i (length stem)) (getD stem i (entryOf 0 0 0)) (getD lap ((i - length stem) % length lap) (entryOf 0 0 0))
+
+-- its index in the stem or lap
+unfoldable pub indexAt : List Entry → List Entry → ℕ → ℕ
+indexAt stem lap i = cond (ltb i (length stem)) i ((i - length stem) % length lap)
+
+-- its pass: "0 stem, 1 first lap, 2 second, 3 any later one"
+unfoldable pub passAt : List Entry → List Entry → ℕ → ℕ
+passAt stem lap i =
+    cond (ltb i (length stem)) 0
+    (cond (ltb i (length stem + length lap)) 1
+    (cond (ltb i (length stem + length lap + length lap)) 2 3))
+
+-- ---- document 01's number and values of each case
+
+unfoldable pub numberOfPass : Pass → ℕ
+numberOfPass Pass.Stem = 0
+numberOfPass Pass.First = 1
+numberOfPass Pass.Second = 2
+numberOfPass Pass.Later = 3
+
+-- 0 where the run goes on for ever
+unfoldable pub numberOfLap : Lapped → ℕ
+numberOfLap Lapped.Accepted = 0
+numberOfLap (Lapped.Starved s) = 0
+numberOfLap (Lapped.Refused r) = numberOf r
+numberOfLap (Lapped.Stopped k p r) = numberOf r
+
+-- the step that starves, or the waiting step of 15
+unfoldable pub stepOfLap : Lapped → ℕ
+stepOfLap Lapped.Accepted = 0
+stepOfLap (Lapped.Starved s) = s .0
+stepOfLap (Lapped.Refused r) = stepOf r
+stepOfLap (Lapped.Stopped k p r) = stepOf r
+
+-- the index of the refused entry
+unfoldable pub indexOfLap : Lapped → ℕ
+indexOfLap Lapped.Accepted = 0
+indexOfLap (Lapped.Starved s) = 0
+indexOfLap (Lapped.Refused r) = 0
+indexOfLap (Lapped.Stopped k p r) = k
+
+-- its pass
+unfoldable pub passOfLap : Lapped → ℕ
+passOfLap Lapped.Accepted = 0
+passOfLap (Lapped.Starved s) = 0
+passOfLap (Lapped.Refused r) = 0
+passOfLap (Lapped.Stopped k p r) = numberOfPass p
+
+-- ---- the table, before any entry is looked at: 2, 4, 6, 7, 8, 17
+
+abbrev pub lapLines : Graph → Marking → List ℕ → List ℕ → List Line
+lapLines g m stem lap =
+    graphLines g ++ (Length, not (lengthFits stem && lengthFits lap)) ∷ markingLines g m ++ (EmptyLap, eqb (length lap) 0) ∷ []
+
+-- ---- the answer
+
+-- entry k of pass p is the first that is not allowed
+pub record Stops (g : Graph) (m : Marking) (stem lap : List Entry) (k : ℕ) (p : Pass) (r : Refusal) : Type 0 where
+  pub position : ℕ
+  pub refused : RefusedAt g m (runOf stem lap) position r
+  pub index : k ≡ indexAt stem lap position
+  pub pass : numberOfPass p ≡ passAt stem lap position
+
+-- "The answer is a refusal with its index in the stem or lap and the pass; or accepted; or starved, with the lowest step that from some
+-- point on is due, included, and neither done nor excluded." Before any entry is looked at, the table
+unfoldable pub LapAnswer : Graph → Marking → List ℕ → List ℕ → Lapped → Type 0
+LapAnswer g m stem lap (Lapped.Refused r) = first (lapLines g m stem lap) ≡ Verdict.Refused r
+LapAnswer g m stem lap (Lapped.Stopped k p r) = (first (lapLines g m stem lap) ≡ Verdict.Clear) × Stops g m (entries stem) (entries lap) k p r
+LapAnswer g m stem lap Lapped.Accepted =
+    (first (lapLines g m stem lap) ≡ Verdict.Clear)
+    × GoesOn g m (runOf (entries stem) (entries lap))
+    × Accepting g m (runOf (entries stem) (entries lap))
+LapAnswer g m stem lap (Lapped.Starved s) =
+    (first (lapLines g m stem lap) ≡ Verdict.Clear)
+    × GoesOn g m (runOf (entries stem) (entries lap))
+    × Starves g m (runOf (entries stem) (entries lap)) (s .0)

@@ -1,0 +1,243 @@
+// The call over a graph that is lent, table by table, so that no graph is copied.
+ghost use mathlib.Core.Path.{_≡_};
+ghost use Prim.Native.Nat.{ℕ, _%_, _<_, _≤_};
+ghost use lib.ListN.{length};
+ghost use Rattle.rules.specs.Graph.{lentGraph};
+ghost use Rattle.sets.specs.Sets.{lowest};
+ghost use Rattle.journal.specs.Journal.{entries};
+ghost use Rattle.laps.specs.Laps.{LapAnswer};
+ghost use Rattle.laps.specs.Decision.{still, judged, legOf, decision};
+use crate::Lapped;
+use crate::Pass;
+use journal::inner::entry_at;
+use journal::inner::length_fits;
+use rules::Marking;
+use rules::Move;
+use rules::Refusal;
+use rules::Step;
+use rules::Verdict;
+
+// Every step there could be.
+const ALL: u64 = 18446744073709551615;
+
+// Where going through a journal leads: nothing against its entries, or the refusal of entry `index`; the marking then; and the steps that
+// were due and included in every marking on the way, and not done.
+pub struct Leg {
+    pub verdict: Verdict,
+    pub index: u16,
+    pub at: Marking,
+    pub left: u64,
+}
+
+// The steps of x that are due and included in m, less s.
+fn remain(x: u64, m: Marking, s: u8) -> u64
+    requires { ⌜ s < 64 ⌝ }
+    ensures { λ r. ⌜ r ≡ still x m s ⌝ }
+{
+    let open = x & (m.due & m.included);
+    open ^ (open & sets::single(s))
+}
+
+fn lowest_of(x: u64) -> Step
+    ensures { λ r. ⌜ r .0 ≡ lowest 64 x ⌝ }
+{
+    Step(sets::lowest(x))
+}
+
+// What is said of a lap in which x are the steps that stay due and included and are not done.
+fn judge(x: u64) -> Lapped
+    ensures { λ r. ⌜ r ≡ judged x ⌝ }
+{
+    if x == 0 {
+        return Lapped::Accepted;
+    }
+    Lapped::Starved(lowest_of(x))
+}
+
+// The entries, on a graph and a journal that are as they should be. Refusals 11 to 15.
+fn go_through<'a>(
+    steps: u8,
+    people: u8,
+    roles: u8,
+    allows: &'a [u16; 64],
+    holds: &'a [u16; 16],
+    conditions: &'a [u64; 64],
+    responses: &'a [u64; 64],
+    includes: &'a [u64; 64],
+    excludes: &'a [u64; 64],
+    m: Marking,
+    j: &[u8],
+) -> Leg
+    requires { ⌜ (steps ≤ 64) × (people ≤ 16) × (roles ≤ 16) × (length (now j) % 3 ≡ 0) × (length (now j) ≤ 65535) ⌝ }
+    ensures { λ r. ⌜ r ≡ legOf (lentGraph steps people roles (now (allows .entry)) (now (holds .entry)) (now (conditions .entry)) (now (responses .entry)) (now (includes .entry)) (now (excludes .entry))) m (entries (now (j .entry))) ⌝ }
+{
+    let count = j.len() / 3;
+    let mut at = m;
+    let mut left = ALL;
+    let mut k = 0;
+    while k < count {
+        let e = entry_at(j, k);
+        let o = rules::lent::enter(
+            steps,
+            people,
+            roles,
+            allows,
+            holds,
+            conditions,
+            responses,
+            includes,
+            excludes,
+            at,
+            e,
+        );
+        match o {
+            Move::Moved(next) => {
+                left = remain(left, at, e.step.0);
+                at = next;
+            }
+            Move::Refused(r, _) => {
+                return Leg {
+                    verdict: Verdict::Refused(r),
+                    index: k as u16,
+                    at,
+                    left,
+                };
+            }
+        }
+        k += 1;
+    }
+    Leg {
+        verdict: Verdict::Clear,
+        index: k as u16,
+        at,
+        left,
+    }
+}
+
+// The stem and the lap twice, on a graph, journals and a marking that are as they should be. Refusals 11 to 15.
+fn decide<'a>(
+    steps: u8,
+    people: u8,
+    roles: u8,
+    allows: &'a [u16; 64],
+    holds: &'a [u16; 16],
+    conditions: &'a [u64; 64],
+    responses: &'a [u64; 64],
+    includes: &'a [u64; 64],
+    excludes: &'a [u64; 64],
+    m: Marking,
+    stem: &[u8],
+    lap: &[u8],
+) -> Lapped
+    requires { ⌜ (steps ≤ 64) × (people ≤ 16) × (roles ≤ 16) × (length (now stem) % 3 ≡ 0) × (length (now stem) ≤ 65535) × (length (now lap) % 3 ≡ 0) × (length (now lap) ≤ 65535) ⌝ }
+    ensures { λ r. ⌜ r ≡ decision (lentGraph steps people roles (now (allows .entry)) (now (holds .entry)) (now (conditions .entry)) (now (responses .entry)) (now (includes .entry)) (now (excludes .entry))) m (entries (now (stem .entry))) (entries (now (lap .entry))) ⌝ }
+{
+    let a = go_through(
+        steps,
+        people,
+        roles,
+        allows,
+        holds,
+        conditions,
+        responses,
+        includes,
+        excludes,
+        m,
+        stem,
+    );
+    let v = a.verdict;
+    if let Verdict::Refused(r) = v {
+        return Lapped::Stopped(a.index, Pass::Stem, r);
+    }
+    let b = go_through(
+        steps,
+        people,
+        roles,
+        allows,
+        holds,
+        conditions,
+        responses,
+        includes,
+        excludes,
+        a.at,
+        lap,
+    );
+    let w = b.verdict;
+    if let Verdict::Refused(r) = w {
+        return Lapped::Stopped(b.index, Pass::First, r);
+    }
+    let c = go_through(
+        steps,
+        people,
+        roles,
+        allows,
+        holds,
+        conditions,
+        responses,
+        includes,
+        excludes,
+        b.at,
+        lap,
+    );
+    let x = c.verdict;
+    if let Verdict::Refused(r) = x {
+        return Lapped::Stopped(c.index, Pass::Second, r);
+    }
+    judge(c.left)
+}
+
+// Refusals 2, 4, 6, 7, 8, 17, then 11 to 15 of the earliest refused entry.
+pub fn lap<'a>(
+    steps: u8,
+    people: u8,
+    roles: u8,
+    allows: &'a [u16; 64],
+    holds: &'a [u16; 16],
+    conditions: &'a [u64; 64],
+    responses: &'a [u64; 64],
+    includes: &'a [u64; 64],
+    excludes: &'a [u64; 64],
+    m: Marking,
+    stem: &[u8],
+    lap: &[u8],
+) -> Lapped
+    ensures { λ r. ⌜ LapAnswer (lentGraph steps people roles (now (allows .entry)) (now (holds .entry)) (now (conditions .entry)) (now (responses .entry)) (now (includes .entry)) (now (excludes .entry))) m (now (stem .entry)) (now (lap .entry)) r ⌝ }
+{
+    let v = rules::lent::check(
+        excludes,
+        includes,
+        responses,
+        conditions,
+        holds,
+        allows,
+        steps,
+        people,
+        roles,
+    );
+    if let Verdict::Refused(r) = v {
+        return Lapped::Refused(r);
+    }
+    if !(length_fits(stem) & length_fits(lap)) {
+        return Lapped::Refused(Refusal::Length);
+    }
+    if !rules::inner::fits(steps, m) {
+        return Lapped::Refused(Refusal::Outside);
+    }
+    if lap.len() == 0 {
+        return Lapped::Refused(Refusal::EmptyLap);
+    }
+    decide(
+        steps,
+        people,
+        roles,
+        allows,
+        holds,
+        conditions,
+        responses,
+        includes,
+        excludes,
+        m,
+        stem,
+        lap,
+    )
+}
