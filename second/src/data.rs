@@ -1,6 +1,7 @@
 //! Plain data in the form that crosses the border. Any value of these types may be handed over; nothing here is checked.
 
 use std::fmt;
+use std::ops::Deref;
 
 /// The three counts and the six arrays of a graph.
 #[derive(Clone, PartialEq, Eq)]
@@ -31,7 +32,11 @@ pub struct Entry {
     pub role: u8,
 }
 
-/// A number of the table and a value: number + 256 * value. The number is 0 when the call is answered.
+/// Bytes of any number: a journal, a record or a sheet.
+#[derive(Clone, Default, PartialEq, Eq)]
+pub struct Bytes(pub Vec<u8>);
+
+/// Number (bits 0 to 7), value (8 to 15), index (16 to 31) and pass (32 to 39). The number is 0 when the call is answered.
 #[derive(Clone, Copy, PartialEq, Eq)]
 pub struct Answer(pub u64);
 
@@ -58,12 +63,45 @@ impl Answer {
         Answer(number + 256 * value)
     }
 
+    /// With an index, count or length as well.
+    pub const fn at(self, index: usize) -> Self {
+        Answer(self.0 + ((index as u64) << 16))
+    }
+
+    pub const fn in_pass(self, pass: u64) -> Self {
+        Answer(self.0 + (pass << 32))
+    }
+
+    /// What a walk hands out: value 1 and the entry, or value 0 at the end.
+    pub fn handed_out(entry: Option<Entry>) -> Self {
+        entry.map_or(Answer(0), |Entry { person, step, role }| {
+            let [person, step, role] = [person, step, role].map(u64::from);
+            Answer(256 + (person << 16) + (step << 24) + (role << 32))
+        })
+    }
+
     pub const fn number(self) -> u64 {
         self.0 % 256
     }
 
     pub const fn value(self) -> u64 {
-        self.0 / 256
+        self.0 >> 8 & 0xff
+    }
+
+    pub const fn index(self) -> usize {
+        (self.0 >> 16 & 0xffff) as usize
+    }
+
+    pub const fn pass(self) -> u64 {
+        self.0 >> 32
+    }
+}
+
+impl Deref for Bytes {
+    type Target = [u8];
+
+    fn deref(&self) -> &[u8] {
+        &self.0
     }
 }
 
@@ -98,6 +136,23 @@ impl fmt::Debug for Marking {
 
 impl fmt::Debug for Answer {
     fn fmt(&self, f: &mut fmt::Formatter<'_>) -> fmt::Result {
-        write!(f, "{} with {}", self.number(), self.value())
+        write!(f, "{} with {}", self.number(), self.value())?;
+        if self.0 >> 16 != 0 {
+            write!(f, ", index {}, pass {}", self.index(), self.pass())?;
+        }
+        Ok(())
+    }
+}
+
+/// The first bytes and how many there are: the case can be made again, so the rest need not be read.
+impl fmt::Debug for Bytes {
+    fn fmt(&self, f: &mut fmt::Formatter<'_>) -> fmt::Result {
+        const SHOWN: usize = 120;
+        write!(f, "{} bytes", self.len())?;
+        self.iter().take(SHOWN).try_for_each(|byte| write!(f, " {byte:02x}"))?;
+        if self.len() > SHOWN {
+            write!(f, " ...")?;
+        }
+        Ok(())
     }
 }

@@ -32,14 +32,14 @@ pub fn fitting(dice: &mut Dice, g: &Graph) -> Entry {
     }
 }
 
-fn known(dice: &mut Dice, g: &Graph) -> Entry {
+pub fn known(dice: &mut Dice, g: &Graph) -> Entry {
     let [person, step, role] =
         [g.people, g.steps, g.roles].map(|count| dice.between(0, usize::from(count).max(1)) as u8);
     Entry { person, step, role }
 }
 
 /// At least one place names something beyond the counts, most often the first number beyond.
-fn make_unknown(dice: &mut Dice, g: &Graph, entry: &mut Entry) {
+pub fn make_unknown(dice: &mut Dice, g: &Graph, entry: &mut Entry) {
     let places = dice.pick(&[1, 1, 2, 2, 4, 4, 3, 5, 6, 7]);
     for (i, (place, count)) in
         [(&mut entry.person, g.people), (&mut entry.step, g.steps), (&mut entry.role, g.roles)].into_iter().enumerate()

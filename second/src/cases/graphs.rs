@@ -14,6 +14,17 @@ pub fn well_formed(dice: &mut Dice) -> Graph {
     sized(dice, sizes, densities)
 }
 
+/// One on which a walk can go on for long, most often: little is waited for, and little is excluded for good.
+pub fn lively(dice: &mut Dice) -> Graph {
+    use Density::*;
+    let sizes = [64, 16, 16].map(|most| dice.between(1, most + 1) as u8);
+    let [allows, holds] = [(); 2].map(|()| dice.pick(&[Thin, Half, Dense, Full]));
+    let conditions = dice.pick(&[Empty, Sparse, Sparse, Thin]);
+    let [responses, includes] = [(); 2].map(|()| dice.density());
+    let excludes = dice.pick(&[Empty, Sparse, Sparse, Thin, Half]);
+    sized(dice, sizes, [allows, holds, conditions, responses, includes, excludes])
+}
+
 /// A well-formed graph of so many steps, people and roles. The densities are those of `allows`, `holds`, `conditions`,
 /// `responses`, `includes` and `excludes`; where the last two meet, one of them gives way.
 pub fn sized(dice: &mut Dice, [steps, people, roles]: [u8; 3], densities: [Density; 6]) -> Graph {

@@ -16,3 +16,11 @@ pub fn name_beyond(dice: &mut Dice, steps: u8, m: &mut Marking) {
         m.0[dice.below(3)] |= 1 << step;
     }
 }
+
+/// Most often has everything included that the graph knows, or done, or both, so that a walk can go on for long.
+pub fn liven(dice: &mut Dice, steps: u8, m: &mut Marking) {
+    let all = first(steps);
+    let [done, included] = dice.pick(&[[0, 0], [all, 0], [0, all], [0, all], [all, all]]);
+    m.0[0] |= done;
+    m.0[2] |= included;
+}

@@ -3,13 +3,23 @@
 mod damage;
 mod dice;
 mod entries;
+pub mod folds;
 mod graphs;
+pub mod journals;
+pub mod laps;
 mod markings;
+mod parts;
+pub mod records;
+pub mod sheets;
+mod spoil;
+pub mod tracks;
+mod walks;
 
 pub use dice::{Density, Dice};
 pub use entries::{fitting, make_moved, make_waiting};
 pub use graphs::sized;
 pub use markings::inside;
+pub use walks::walk;
 
 use crate::data::{Entry, Graph, Marking};
 use crate::sample;
@@ -24,7 +34,15 @@ pub struct Case {
 /// Marking and entry are made for the whole graph and the damage comes last, so that several refusals hold at once and their
 /// order is tried.
 pub fn make(dice: &mut Dice) -> Case {
-    let (mut graph, mut marking) = match dice.below(20) {
+    let (mut graph, mut marking) = job(dice);
+    let entry = entries::aimed(dice, &graph, &mut marking);
+    harm(dice, &mut graph, &mut marking);
+    Case { graph, marking, entry }
+}
+
+/// A graph and a marking: the sample job, noise, and most often a well-formed graph.
+fn job(dice: &mut Dice) -> (Graph, Marking) {
+    match dice.below(20) {
         0 | 1 => (sample::graph(), dice.pick(&[sample::START, sample::REBOOTED, sample::CHECKED])),
         2 => (graphs::noise(dice), Marking([dice.word(), dice.word(), dice.word()])),
         _ => {
@@ -32,13 +50,26 @@ pub fn make(dice: &mut Dice) -> Case {
             let marking = markings::inside(dice, graph.steps);
             (graph, marking)
         }
-    };
-    let entry = entries::aimed(dice, &graph, &mut marking);
+    }
+}
+
+/// The same, but most often one that a journal gets far on.
+fn lively_job(dice: &mut Dice) -> (Graph, Marking) {
+    if dice.one_in(4) {
+        return job(dice);
+    }
+    let graph = graphs::lively(dice);
+    let mut marking = markings::inside(dice, graph.steps);
+    markings::liven(dice, graph.steps, &mut marking);
+    (graph, marking)
+}
+
+/// Nothing, half of the time; otherwise a marking or a graph that is damaged, or both.
+fn harm(dice: &mut Dice, graph: &mut Graph, marking: &mut Marking) {
     if dice.one_in(8) {
-        markings::name_beyond(dice, graph.steps, &mut marking);
+        markings::name_beyond(dice, graph.steps, marking);
     }
     for _ in 0..dice.pick(&[0, 0, 0, 0, 0, 1, 1, 2, 3]) {
-        damage::damage(dice, &mut graph);
+        damage::damage(dice, graph);
     }
-    Case { graph, marking, entry }
 }

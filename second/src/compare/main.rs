@@ -1,58 +1,101 @@
-//! `compare --seed S --cases N [--first I]`: makes N random and damaged inputs, from case I on, calls the box, the model and
-//! the peer, and says how often each answer came and where they differ. Fails (status 1) where they differ, or where in 20,000
-//! cases or more an answer that a call can give never came up.
+//! `compare [--seed S] [--cases N] [--full M] [--first I] [--only FLOOR]`: makes N random and damaged inputs for each floor, and
+//! M with journals of full length, from case I on; calls the box, the model and the peer, and says how often each answer came
+//! and where they differ. Fails (status 1) where they differ, or where in 20,000 cases or more an answer that a call can give
+//! never came up. The floors above the rules are those that the program was built with, by features.
 
-#[path = "../border.rs"]
+// A program that lacks a floor has no use for all that the floors share.
+#![cfg_attr(
+    not(all(feature = "journals", feature = "records", feature = "sheets", feature = "laps", feature = "tracker")),
+    allow(dead_code)
+)]
+
+#[path = "../border/mod.rs"]
 mod border;
-mod call;
-mod check;
-mod finished;
+mod floor;
+#[cfg(feature = "records")]
+mod folds;
+#[cfg(feature = "journals")]
+mod journals;
+#[cfg(feature = "laps")]
+mod laps;
+mod lent;
+#[cfg(feature = "records")]
+mod records;
 mod report;
-mod take;
+mod rules;
+mod seen;
+#[cfg(feature = "sheets")]
+mod sheets;
+#[cfg(feature = "tracker")]
+mod tracker;
+mod words;
 
-use call::{Call, Input};
+use floor::Play;
 use report::Report;
-use second::cases::{self, Dice};
+use second::cases::Dice;
 use std::process::ExitCode;
 
-const CALLS: &[Call] = &[check::CALL, take::CALL, finished::CALL];
+const FLOORS: &[&dyn Play] = &[
+    &rules::FLOOR,
+    #[cfg(feature = "journals")]
+    &journals::FLOOR,
+    #[cfg(feature = "records")]
+    &records::FLOOR,
+    #[cfg(feature = "records")]
+    &folds::FLOOR,
+    #[cfg(feature = "sheets")]
+    &sheets::FLOOR,
+    #[cfg(feature = "laps")]
+    &laps::FLOOR,
+    #[cfg(feature = "tracker")]
+    &tracker::FLOOR,
+];
 
 struct Options {
     seed: u64,
     cases: u64,
+    full: u64,
     first: u64,
+    floors: Vec<&'static dyn Play>,
 }
 
 fn options() -> Option<Options> {
-    let mut options = Options { seed: 1, cases: 20_000, first: 0 };
+    let mut options = Options { seed: 1, cases: 20_000, full: 0, first: 0, floors: FLOORS.to_vec() };
     let mut words = std::env::args().skip(1);
     while let Some(word) = words.next() {
+        let value = words.next()?;
         let place = match word.as_str() {
             "--seed" => &mut options.seed,
             "--cases" => &mut options.cases,
+            "--full" => &mut options.full,
             "--first" => &mut options.first,
+            "--only" => {
+                options.floors.retain(|floor| floor.name() == value);
+                continue;
+            }
             _ => return None,
         };
-        *place = words.next()?.parse().ok()?;
+        *place = value.parse().ok()?;
     }
-    Some(options)
+    (!options.floors.is_empty()).then_some(options)
 }
 
 fn main() -> ExitCode {
-    let Some(Options { seed, cases, first }) = options() else {
-        eprintln!("compare --seed S --cases N [--first I]");
+    let Some(Options { seed, cases, full, first, floors }) = options() else {
+        let names: Vec<_> = FLOORS.iter().map(|floor| floor.name()).collect();
+        eprintln!("compare [--seed S] [--cases N] [--full M] [--first I] [--only {}]", names.join("|"));
         return ExitCode::from(2);
     };
-    let mut report = Report::new(CALLS);
-    for index in first..first.saturating_add(cases) {
-        let input = Input::new(cases::make(&mut Dice::new(seed, index)));
-        report.count_size(&input);
-        for (place, call) in CALLS.iter().enumerate() {
-            let seen = (call.run)(&input);
-            report.count(place, &seen, || format!("--seed {seed} --first {index} --cases 1\n  {:?}", input.case));
+    let mut report = Report::new(&floors);
+    for floor in &floors {
+        for (is_full, number, how) in [(false, cases, "--cases 1"), (true, full, "--cases 0 --full 1")] {
+            for index in first..first.saturating_add(number) {
+                let again = format!("--seed {seed} --only {} --first {index} {how}", floor.name());
+                floor.play(Dice::new(seed, index), is_full, &again, &mut report);
+            }
         }
     }
-    if report.close(cases) {
+    if report.close(&floors, cases, full) {
         ExitCode::SUCCESS
     } else {
         ExitCode::FAILURE

@@ -1,7 +1,7 @@
 //! Counts what came and prints it.
 
-use crate::call::{Call, Input, Seen};
-use second::peer;
+use crate::floor::{Play, Table};
+use crate::seen::Seen;
 use std::collections::{BTreeMap, BTreeSet};
 
 /// From so many cases on, an answer that never came up is a fault of the comparison itself.
@@ -11,65 +11,72 @@ const ENOUGH: u64 = 20_000;
 const SHOWN: u64 = 5;
 
 pub struct Report {
-    calls: &'static [Call],
     /// For each call, how often each kind of answer came.
-    came: Vec<BTreeMap<u64, u64>>,
-    /// The step counts of well-formed graphs.
-    sizes: BTreeSet<u8>,
+    came: BTreeMap<&'static str, BTreeMap<u64, u64>>,
+    /// For each floor, the step counts that came.
+    sizes: BTreeMap<&'static str, BTreeSet<u8>>,
     differences: u64,
 }
 
 impl Report {
-    pub fn new(calls: &'static [Call]) -> Self {
-        let came = calls.iter().map(|call| call.answers.iter().map(|(kind, _)| (*kind, 0)).collect()).collect();
-        Report { calls, came, sizes: BTreeSet::new(), differences: 0 }
-    }
-
-    pub fn count_size(&mut self, input: &Input) {
-        let graph = &input.case.graph;
-        if peer::check(graph).is_ok() {
-            self.sizes.insert(graph.steps);
+    pub fn new(floors: &[&dyn Play]) -> Self {
+        let none = |table: &Table| table.answers.iter().copied().flatten().map(|(kind, _)| (*kind, 0)).collect();
+        let tables = floors.iter().flat_map(|floor| floor.tables());
+        Report {
+            came: tables.map(|table| (table.name, none(table))).collect(),
+            sizes: floors.iter().map(|floor| (floor.name(), BTreeSet::new())).collect(),
+            differences: 0,
         }
     }
 
+    pub fn count_size(&mut self, floor: &'static str, size: u8) {
+        self.sizes.entry(floor).or_default().insert(size);
+    }
+
     /// Counts a call's answer, and as one difference whatever was wrong with it.
-    pub fn count(&mut self, place: usize, seen: &Seen, input: impl FnOnce() -> String) {
-        let call = &self.calls[place];
+    pub fn count(&mut self, table: &Table, seen: &Seen, input: impl FnOnce() -> String) {
         let mut faults = seen.faults.clone();
-        match self.came[place].get_mut(&(call.kind)(seen.answer)) {
+        match self.came.get_mut(table.name).and_then(|came| came.get_mut(&seen.kind)) {
             Some(times) => *times += 1,
-            None => faults.push(format!("model: {:?}, which is no answer of this call", seen.answer)),
+            None => faults.push(format!("model: {}, which is no answer of this call", seen.kind)),
         }
         if faults.is_empty() {
             return;
         }
         self.differences += 1;
         if self.differences <= SHOWN {
-            println!("difference in {}: {}", call.name, input());
+            println!("difference in {}: {}", table.name, input());
             faults.iter().for_each(|fault| println!("  {fault}"));
         }
     }
 
     /// Prints the tables and says whether all is well.
-    pub fn close(&self, cases: u64) -> bool {
+    pub fn close(&self, floors: &[&dyn Play], cases: u64, full: u64) -> bool {
+        println!("{:12} {:>6}  {:32} {:>10}", "call", "number", "", "times");
         let mut missing = Vec::new();
-        println!("{:10} {:>6}  {:32} {:>10}", "call", "answer", "", "times");
-        for (call, came) in self.calls.iter().zip(&self.came) {
-            for (kind, words) in call.answers {
-                let times = came[kind];
-                println!("{:10} {kind:>6}  {words:32} {times:>10}", call.name);
-                if times == 0 {
-                    missing.push(format!("{} {kind} ({words})", call.name));
-                }
-            }
+        for floor in floors {
+            floor.tables().iter().for_each(|table| self.print(table, &mut missing));
+            let sizes = &self.sizes[floor.name()];
+            println!("{}: {} of the 64 sizes", floor.name(), sizes.len());
+            let missed = (1..=64).filter(|n| !sizes.contains(n));
+            missing.extend(missed.map(|n| format!("{} of {n} steps", floor.name())));
         }
-        println!("well-formed graphs of {} of the 64 sizes", self.sizes.len());
-        missing.extend((1..=64).filter(|n| !self.sizes.contains(n)).map(|n| format!("a graph of {n} steps")));
         let covered = cases < ENOUGH || missing.is_empty();
         if !covered {
             println!("never came up: {}", missing.join(", "));
         }
-        println!("{cases} cases, {} differences", self.differences);
+        println!("{cases} cases of each floor, {full} of full length, {} differences", self.differences);
         covered && self.differences == 0
+    }
+
+    fn print(&self, table: &Table, missing: &mut Vec<String>) {
+        for (kind, words) in table.answers.iter().copied().flatten() {
+            let times = self.came[table.name][kind];
+            let number = kind % 256;
+            println!("{:12} {number:>6}  {words:32} {times:>10}", table.name);
+            if times == 0 {
+                missing.push(format!("{} {number} ({words})", table.name));
+            }
+        }
     }
 }

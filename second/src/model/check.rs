@@ -3,15 +3,16 @@ use crate::data::Answer;
 
 /// 0 when the graph is well-formed, else 2, 4 or 6.
 pub fn check(g: &Graph) -> Answer {
-    Answer::new(lowest(&numbers(g)), 0)
+    Answer::new(refused(g, &[]), 0)
 }
 
-/// "A graph handed over as a value is checked for 2, 4 and 6 each time."
-pub fn numbers(g: &Graph) -> [(u64, bool); 3] {
-    [(2, counts_out_of_range(g)), (4, names_beyond(g)), (6, includes_and_excludes(g))]
+/// "A graph handed over as a value is checked for 2, 4 and 6 each time." The lowest of these and of more that hold, or 0.
+pub fn refused(g: &Graph, more: &[(u64, bool)]) -> u64 {
+    let numbers = [(2, counts_out_of_range(g)), (4, names_beyond(g)), (6, includes_and_excludes(g))];
+    lowest(&[&numbers, more].concat())
 }
 
-fn counts_out_of_range(g: &Graph) -> bool {
+pub fn counts_out_of_range(g: &Graph) -> bool {
     !(1..=64).contains(&g.steps) || !(1..=16).contains(&g.people) || !(1..=16).contains(&g.roles)
 }
 
@@ -25,6 +26,6 @@ fn names_beyond(g: &Graph) -> bool {
             .any(|arrows| outside(arrows, g.steps, g.steps))
 }
 
-fn includes_and_excludes(g: &Graph) -> bool {
+pub fn includes_and_excludes(g: &Graph) -> bool {
     g.includes.iter().any(|pair| g.excludes.contains(pair))
 }

@@ -28,26 +28,47 @@ impl Graph {
             roles: g.roles.into(),
             allows: pairs(&g.allows),
             holds: pairs(&g.holds),
-            // A row is kept for the step that waits, and the arrow comes from the step that it waits for.
-            conditions: pairs(&g.conditions).into_iter().map(|(waiting, first)| (first, waiting)).collect(),
+            conditions: turned(&pairs(&g.conditions)),
             responses: pairs(&g.responses),
             includes: pairs(&g.includes),
             excludes: pairs(&g.excludes),
         }
     }
 
+    pub fn write(&self) -> data::Graph {
+        let rows = |pairs: &Pairs| std::array::from_fn(|i| row(pairs, i));
+        data::Graph {
+            steps: self.steps as u8,
+            people: self.people as u8,
+            roles: self.roles as u8,
+            allows: std::array::from_fn(|step| row(&self.allows, step) as u16),
+            holds: std::array::from_fn(|person| row(&self.holds, person) as u16),
+            conditions: rows(&turned(&self.conditions)),
+            responses: rows(&self.responses),
+            includes: rows(&self.includes),
+            excludes: rows(&self.excludes),
+        }
+    }
+
     /// The steps that step e points at by these arrows.
     pub fn targets(arrows: &Pairs, e: usize) -> BTreeSet<usize> {
-        arrows.iter().filter(|(from, _)| *from == e).map(|(_, to)| *to).collect()
+        arrows.range((e, 0)..(e + 1, 0)).map(|(_, to)| *to).collect()
     }
 }
 
+/// A row of conditions is kept for the step that waits, and the arrow comes from the step that it waits for.
+fn turned(pairs: &Pairs) -> Pairs {
+    pairs.iter().map(|&(a, b)| (b, a)).collect()
+}
+
+/// The stored set of what goes with i.
+pub fn row(pairs: &Pairs, i: usize) -> u64 {
+    pairs.range((i, 0)..(i + 1, 0)).map(|(_, member)| 1 << member).sum()
+}
+
 fn pairs<T: Copy + Into<u64>>(rows: &[T]) -> Pairs {
-    let mut found = Pairs::new();
-    for (row, &set) in rows.iter().enumerate() {
-        found.extend(members(set.into()).into_iter().map(|member| (row, member)));
-    }
-    found
+    let of_row = |(row, &set): (usize, &T)| members(set.into()).into_iter().map(move |member| (row, member));
+    rows.iter().enumerate().flat_map(of_row).collect()
 }
 
 /// The numbers in a stored set: s is in it when bit s is 1.

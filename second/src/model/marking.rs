@@ -3,7 +3,7 @@ use crate::data;
 use std::collections::BTreeSet;
 
 /// Three sets of steps: Ex, Re, In.
-#[derive(Clone)]
+#[derive(Clone, PartialEq, Eq)]
 pub struct Marking {
     pub done: BTreeSet<usize>,
     pub due: BTreeSet<usize>,

@@ -4,14 +4,25 @@
 mod check;
 mod finished;
 mod graph;
+mod journal;
+mod lap;
 mod marking;
+pub mod record;
+mod run;
+pub mod sheet;
 mod take;
+mod track;
+mod walk;
 
 pub use check::check;
 pub use finished::finished;
 pub use graph::Graph;
+pub use lap::lap;
 pub use marking::Marking;
+pub use run::run;
 pub use take::take;
+pub use track::{track_idle, track_start, track_step};
+pub use walk::Walk;
 
 /// "The lowest number that holds is given, per call": 0 if none of them holds.
 fn lowest(numbers: &[(u64, bool)]) -> u64 {

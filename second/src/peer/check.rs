@@ -3,9 +3,7 @@ use crate::data::{Graph, Marking};
 use std::ops::BitOr;
 
 pub fn check(g: &Graph) -> Result<(), Refusal> {
-    if !(1..=64).contains(&g.steps) || !(1..=16).contains(&g.people) || !(1..=16).contains(&g.roles) {
-        return Err(Refusal::Counts);
-    }
+    check_counts(g.steps, g.people, g.roles)?;
     let (steps, people) = (usize::from(g.steps), usize::from(g.people));
     let (all_steps, all_roles) = (first(g.steps), first(g.roles));
     if [&g.conditions, &g.responses, &g.includes, &g.excludes].iter().any(|rows| beyond(*rows, steps, all_steps))
@@ -20,17 +18,25 @@ pub fn check(g: &Graph) -> Result<(), Refusal> {
     Ok(())
 }
 
-/// Refuses a marking that names a step beyond the graph, whose counts have been checked.
-pub fn inside(g: &Graph, m: &Marking) -> Result<(), Refusal> {
+#[inline]
+pub fn check_counts(steps: u8, people: u8, roles: u8) -> Result<(), Refusal> {
+    if !(1..=64).contains(&steps) || !(1..=16).contains(&people) || !(1..=16).contains(&roles) {
+        return Err(Refusal::Counts);
+    }
+    Ok(())
+}
+
+/// Refuses a marking that names a step beyond so many, which is a number from 1 to 64.
+pub fn inside(steps: u8, m: &Marking) -> Result<(), Refusal> {
     let [done, due, included] = m.0;
-    if (done | due | included) & !first(g.steps) != 0 {
+    if (done | due | included) & !first(steps) != 0 {
         return Err(Refusal::Marking);
     }
     Ok(())
 }
 
 /// The set of the numbers below `count`, which is 1 to 64.
-fn first(count: u8) -> u64 {
+pub fn first(count: u8) -> u64 {
     u64::MAX >> (64 - count)
 }
 

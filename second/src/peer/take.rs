@@ -7,7 +7,14 @@ use crate::data::{Entry, Graph, Marking};
 /// Moves the marking where it lies, or leaves it as it is and says why.
 pub fn take(g: &Graph, m: &mut Marking, e: Entry) -> Result<(), Refusal> {
     check(g)?;
-    inside(g, m)?;
+    inside(g.steps, m)?;
+    *m = enter(g, *m, e)?;
+    Ok(())
+}
+
+/// The move on a graph and a marking that have been checked.
+#[inline]
+pub fn enter(g: &Graph, m: Marking, e: Entry) -> Result<Marking, Refusal> {
     if e.person >= g.people || e.step >= g.steps || e.role >= g.roles {
         return Err(Refusal::Unknown);
     }
@@ -27,6 +34,5 @@ pub fn take(g: &Graph, m: &mut Marking, e: Entry) -> Result<(), Refusal> {
     if waiting != 0 {
         return Err(Refusal::Waits(waiting.trailing_zeros() as u8));
     }
-    m.0 = [done | this, (due & !this) | g.responses[step], (included | g.includes[step]) & !g.excludes[step]];
-    Ok(())
+    Ok(Marking([done | this, (due & !this) | g.responses[step], (included | g.includes[step]) & !g.excludes[step]]))
 }

@@ -1,0 +1,21 @@
+use second::data::{Answer, Graph};
+
+/// The least that a run can do: for each entry the loads (its bytes, the roles, the step's rows) and the four set operations
+/// (what the step waits for, Ex, Re, In), and nothing tested on the way. The tests are gathered up and asked once, at the end.
+pub fn run(g: &Graph, marking: &mut [u64; 3], journal: &[u8]) -> Answer {
+    let (entries, _) = journal.as_chunks();
+    let [mut done, mut due, mut included] = *marking;
+    let (mut waiting, mut roles) = (0, u16::MAX);
+    for &[person, step, role] in entries {
+        let at = usize::from(step % 64);
+        waiting |= g.conditions[at] & included & !done;
+        roles &= (g.holds[usize::from(person % 16)] & g.allows[at]) >> (role % 16);
+        let this = 1 << at;
+        done |= this;
+        due = (due & !this) | g.responses[at];
+        included = (included | g.includes[at]) & !g.excludes[at];
+    }
+    assert!(waiting == 0 && roles & 1 == 1, "an entry is not allowed");
+    *marking = [done, due, included];
+    Answer(0).at(entries.len())
+}

@@ -1,0 +1,3 @@
+mod lap;
+
+pub use lap::run;

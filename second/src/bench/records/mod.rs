@@ -1,0 +1,42 @@
+mod apply;
+mod fold;
+mod join;
+mod read;
+mod restore;
+mod threads;
+mod write;
+
+use crate::inputs::{job, Job};
+use second::peer;
+
+pub fn run() {
+    fold::run();
+    threads::run();
+    join::run();
+    apply::run();
+    read::run();
+    write::run();
+    restore::run();
+}
+
+/// A job whose journal is in two halves, each folded: the two can follow one another.
+struct Halves {
+    job: Job,
+    first: [u8; 65],
+    second: [u8; 65],
+    /// Where the second half of the journal begins.
+    cut: usize,
+}
+
+fn halves() -> Vec<Halves> {
+    (200..208)
+        .map(|entries| {
+            let job = job(entries);
+            let cut = 3 * (entries / 2);
+            let (mut first, mut second) = ([0; 65], [0; 65]);
+            peer::record::fold(&job.graph, &job.journal[..cut], &mut first).expect("a lawful journal");
+            peer::record::fold(&job.graph, &job.journal[cut..], &mut second).expect("a lawful journal");
+            Halves { job, first, second, cut }
+        })
+        .collect()
+}

@@ -1,0 +1,35 @@
+mod read;
+mod write;
+
+use second::cases::{self, Density, Dice};
+use second::data::{Graph, Marking};
+use second::peer;
+
+pub fn run() {
+    let full = Job::new(Density::Full);
+    assert_eq!(full.sheet.len(), 37_077, "the full sheet is the longest");
+    let sparse = Job::new(Density::Sparse);
+    read::run("read-full", &full);
+    read::run("read-sparse", &sparse);
+    write::run("write-full", &full);
+    write::run("write-sparse", &sparse);
+}
+
+/// A graph of 64 steps, 16 people and 16 roles, with all 12,288 arrows or one of 32 of them.
+struct Job {
+    graph: Graph,
+    marking: Marking,
+    sheet: Vec<u8>,
+}
+
+impl Job {
+    fn new(arrows: Density) -> Self {
+        let dice = &mut Dice::new(64, 1);
+        let graph = cases::sized(dice, [64, 16, 16], [Density::Half, Density::Half, arrows, arrows, arrows, arrows]);
+        let marking = cases::inside(dice, 64);
+        let mut sheet = vec![0; 40_000];
+        let length = peer::sheet::write(&graph, &marking, &mut sheet).expect("a well-formed graph");
+        sheet.truncate(length);
+        Job { graph, marking, sheet }
+    }
+}

@@ -1,0 +1,27 @@
+//! Graphs, markings, taking a step.
+
+mod check;
+mod finished;
+#[cfg(feature = "journals")]
+mod keep;
+mod take;
+
+use crate::floor::Floor;
+use crate::seen;
+use second::cases::{self, Case};
+
+type Input = seen::Input<Case>;
+
+pub const FLOOR: Floor<Input> = Floor {
+    name: "rules",
+    make: |dice| Input::new(cases::make(dice), |case| (&case.graph, &case.marking)),
+    full: None,
+    size: |input| input.size,
+    calls: &[
+        check::CALL,
+        take::CALL,
+        finished::CALL,
+        #[cfg(feature = "journals")]
+        keep::CALL,
+    ],
+};

@@ -1,0 +1,20 @@
+//! The tracker: its start, single moves, and walks.
+
+mod idle;
+mod start;
+mod step;
+mod walk;
+
+use crate::floor::Floor;
+use crate::seen;
+use second::cases::tracks::{make, Track};
+
+type Input = seen::Input<Track>;
+
+pub const FLOOR: Floor<Input> = Floor {
+    name: "tracker",
+    make: |dice| Input::new(make(dice), |case| (&case.graph, &case.marking)),
+    full: None,
+    size: |input| input.size,
+    calls: &[start::CALL, idle::CALL, step::CALL, walk::CALL],
+};

@@ -1,0 +1,47 @@
+use super::{CONDITION, EXCLUDE, INCLUDE, RESPONSE};
+use crate::data::{Answer, Marking as Stored};
+use crate::model::{
+    check::refused,
+    graph::{row, Pairs},
+    Graph, Marking,
+};
+
+/// The sheet that goes into a room of so many bytes. Refusals 2, 4 (graph or marking), 6, 18.
+pub fn write(g: &Graph, m: &Marking, room: usize) -> Result<Vec<u8>, Answer> {
+    match refused(g, &[(4, m.names_beyond(g.steps))]) {
+        0 => Some(sheet(g, m)).filter(|sheet| sheet.len() <= room).ok_or(Answer::new(18, 0)),
+        number => Err(Answer::new(number, 0)),
+    }
+}
+
+fn sheet(g: &Graph, m: &Marking) -> Vec<u8> {
+    let Stored(marking) = m.write();
+    let bodies = [
+        [g.steps, g.people, g.roles].map(|count| count as u8).to_vec(),
+        marking.iter().flat_map(|set| set.to_le_bytes()).collect(),
+        role_sets(&g.allows, g.steps),
+        role_sets(&g.holds, g.people),
+        arrows(g),
+    ];
+    let (mut sheet, mut offset) = (vec![5], 26);
+    for (kind, body) in (1..).zip(&bodies) {
+        sheet.push(kind);
+        sheet.extend([offset % 256, offset / 256, body.len() % 256, body.len() / 256].map(|byte| byte as u8));
+        offset += body.len();
+    }
+    sheet.extend(bodies.concat());
+    sheet
+}
+
+fn role_sets(pairs: &Pairs, count: usize) -> Vec<u8> {
+    (0..count).flat_map(|i| (row(pairs, i) as u16).to_le_bytes()).collect()
+}
+
+/// "Arrows: kind, from, to; strictly ascending as triples."
+fn arrows(g: &Graph) -> Vec<u8> {
+    let kinds = [(CONDITION, &g.conditions), (RESPONSE, &g.responses), (INCLUDE, &g.includes), (EXCLUDE, &g.excludes)];
+    let of_kind = |(kind, arrows): (u8, &Pairs)| -> Vec<u8> {
+        arrows.iter().flat_map(|&(from, to)| [kind, from as u8, to as u8]).collect()
+    };
+    kinds.map(of_kind).concat()
+}

@@ -1,0 +1,71 @@
+use super::BODIES;
+use crate::data::{Graph, Marking};
+use crate::peer::{
+    check::{check, inside},
+    Refusal,
+};
+
+/// Writes the sheet to the beginning of the room and gives its length.
+pub fn write(g: &Graph, m: &Marking, room: &mut [u8]) -> Result<usize, Refusal> {
+    // A marking beyond the counts is as bad as a graph beyond them, and comes before a pair that includes and excludes.
+    let checked = check(g);
+    if matches!(checked, Ok(()) | Err(Refusal::IncludesAndExcludes)) && inside(g.steps, m).is_err() {
+        return Err(Refusal::Beyond);
+    }
+    checked?;
+    let (steps, people) = (usize::from(g.steps), usize::from(g.people));
+    let lengths = [3, 24, 2 * steps, 2 * people, 3 * count(g)];
+    let length = BODIES + lengths.iter().sum::<usize>();
+    let sheet = room.get_mut(..length).ok_or(Refusal::Room)?;
+    let (contents, bodies) = sheet.split_at_mut(BODIES);
+    write_contents(contents, lengths);
+    let (counts, bodies) = bodies.split_at_mut(3);
+    counts.copy_from_slice(&[g.steps, g.people, g.roles]);
+    let (marking, bodies) = bodies.split_at_mut(24);
+    marking.as_chunks_mut().0.iter_mut().zip(m.0).for_each(|(bytes, set)| *bytes = set.to_le_bytes());
+    let (roles, arrows) = bodies.split_at_mut(2 * (steps + people));
+    let sets = g.allows[..steps].iter().chain(&g.holds[..people]);
+    roles.as_chunks_mut().0.iter_mut().zip(sets).for_each(|(bytes, set)| *bytes = set.to_le_bytes());
+    write_arrows(arrows, g);
+    Ok(length)
+}
+
+/// How many arrows there are.
+fn count(g: &Graph) -> usize {
+    let tables = [&g.conditions, &g.responses, &g.includes, &g.excludes];
+    tables.iter().flat_map(|rows| rows.iter()).map(|row| row.count_ones() as usize).sum()
+}
+
+fn write_contents(contents: &mut [u8], lengths: [usize; 5]) {
+    contents[0] = 5;
+    let mut offset = BODIES;
+    for (i, line) in contents[1..].as_chunks_mut().0.iter_mut().enumerate() {
+        let ([o0, o1], [l0, l1]) = ((offset as u16).to_le_bytes(), (lengths[i] as u16).to_le_bytes());
+        *line = [i as u8 + 1, o0, o1, l0, l1];
+        offset += lengths[i];
+    }
+}
+
+fn write_arrows(arrows: &mut [u8], g: &Graph) {
+    let mut turned = [0u64; 64];
+    for (to, &row) in g.conditions.iter().enumerate() {
+        members(row).for_each(|from| turned[usize::from(from)] |= 1 << to);
+    }
+    let mut places = arrows.as_chunks_mut().0.iter_mut();
+    for (kind, rows) in (0..).zip([&turned, &g.responses, &g.includes, &g.excludes]) {
+        for (from, &row) in (0..).zip(rows) {
+            for (to, place) in members(row).zip(&mut places) {
+                *place = [kind, from, to];
+            }
+        }
+    }
+}
+
+/// The members of a set, in ascending order.
+fn members(mut set: u64) -> impl Iterator<Item = u8> {
+    std::iter::from_fn(move || {
+        let lowest = (set != 0).then(|| set.trailing_zeros() as u8)?;
+        set &= set - 1;
+        Some(lowest)
+    })
+}
