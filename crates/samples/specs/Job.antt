@@ -1,7 +1,7 @@
 -- "Sample job, small": document 01's graph and its start, and answers as the document writes them.
 use Prim.Native.Nat.{ℕ, zero, suc}
 use mathlib.Core.List.{List, [], _∷_}
-use mathlib.Core.Bool.{Bool, _&&_, cond}
+use mathlib.Core.Bool.{Bool, false, _&&_, cond}
 use lib.Dec.{eqb}
 use Rattle.sets.specs.Sets.{single, union}
 use Rattle.rules.specs.declared.Graph.{Graph}
@@ -9,6 +9,7 @@ use Rattle.rules.specs.declared.Marking.{Marking}
 use Rattle.rules.specs.declared.Entry.{Entry}
 use Rattle.rules.specs.declared.Move.{Move}
 use Rattle.rules.specs.First.{numberOf, stepOf}
+use Rattle.records.specs.declared.Recorded.{Recorded}
 use Rattle.tracker.specs.declared.Tracked.{Tracked}
 use Rattle.tracker.specs.Tracker.{theStep}
 
@@ -111,3 +112,24 @@ unfoldable pub tracking : Graph → Tracked → Entry → Tracked
 tracking g (Tracked.At t) e = theStep g t e
 tracking g (Tracked.Refused r) e = Tracked.Refused r
 tracking g (Tracked.Stays r t) e = Tracked.Stays r t
+
+-- the bytes of a journal: person, step, role
+unfoldable pub journal : List Entry → List ℕ
+journal [] = []
+journal (e ∷ rest) = e .person ∷ e .step .0 ∷ e .role ∷ journal rest
+
+-- a record: NeedIn, NeedEx, NeedOutOrEx, Done, DueSet, DueClear, InSet, InClear
+abbrev pub folded : List ℕ → List ℕ → List ℕ → List ℕ → List ℕ → List ℕ → List ℕ → List ℕ → Recorded
+folded needIn needEx needOutOrEx done dueSet dueClear inSet inClear =
+    Recorded.Made
+    (record {
+      never = false;
+      needin = set needIn;
+      needex = set needEx;
+      needout = set needOutOrEx;
+      done = set done;
+      dueset = set dueSet;
+      dueclear = set dueClear;
+      inset = set inSet;
+      inclear = set inClear;
+    })

@@ -1,14 +1,24 @@
 -- Document 01's samples, as one statement over a list of them. Each is about the definitions that the calls promise. Assumes nothing.
 use Prim.Native.Nat.{ℕ}
-use mathlib.Core.Path.{_≡_, refl}
+use mathlib.Core.Path.{_≡_, refl, subst}
 use mathlib.Core.List.{List, [], _∷_}
 use mathlib.Core.Bool.{true, false}
 use Rattle.sets.specs.Sets.{has, full, scan, lowest, every}
 use Rattle.rules.specs.First.{first, numberOf, stepOf}
 use Rattle.rules.specs.Graph.{keeps, setsFit}
-use Rattle.rules.specs.Move.{theMove, moveOf, isFinished}
+use Rattle.rules.specs.Move.{theMove, moveOf, entryMove, isFinished}
+use Rattle.journal.specs.Journal.{entries}
+use Rattle.records.specs.declared.Recorded.{Recorded}
+use Rattle.records.specs.Records.{impossible, tidy, join}
+use Rattle.records.specs.Answers.{recordedOf}
+use Rattle.folding.specs.Fold.{foldOf, entryRecord}
+use Rattle.folding.specs.Answers.{theFold}
+use Rattle.laps.specs.declared.Lapped.{Lapped}
+use Rattle.laps.specs.Laps.{LapAnswer}
+use Rattle.laps.specs.Decision.{theLap, lapOf, decision, legOn, goOn, upon}
+use Rattle.laps.specs.Laws.{the-lap-right}
 use Rattle.tracker.specs.Tracker.{theStart, theStep, trackAfter, trackedOf}
-use Rattle.samples.specs.Job.{set, rows, targets, sources, table, given, job, start, entry, reboot, check, publish, rebooted, checked, at, tracking}
+use Rattle.samples.specs.Job.{set, rows, targets, sources, table, given, job, start, entry, reboot, check, publish, rebooted, checked, at, tracking, journal, folded}
 
 -- a sample: its number in document 01, and what it says
 abbrev pub Sample : Type 1
@@ -39,10 +49,35 @@ samples =
     ∷ (6, given (theMove job start (entry 1 1 0)) ≡ (12, 0, start))
     -- S7: (2,0,0): 11
     ∷ (7, given (theMove job start (entry 2 0 0)) ≡ (11, 0, start))
+    -- S8: fold of reboot: NeedIn {0}, Done {0}, DueSet {1}, DueClear {0}, InClear {2}
+    ∷ (8, theFold job (journal (reboot ∷ [])) ≡ folded (0 ∷ []) [] [] (0 ∷ []) (1 ∷ []) (0 ∷ []) [] (2 ∷ []))
+    -- S9: fold of reboot, check: NeedIn {0,1}, Done {0,1}, DueClear {0,1}, InSet {2}
+    ∷ (9, theFold job (journal (reboot ∷ check ∷ [])) ≡ folded (0 ∷ 1 ∷ []) [] [] (0 ∷ 1 ∷ []) [] (0 ∷ 1 ∷ []) (2 ∷ []) [])
+    -- S10: fold of publish: NeedIn {2}, NeedOutOrEx {1}, Done {2}, DueClear {2}
+    ∷ (10, theFold job (journal (publish ∷ [])) ≡ folded (2 ∷ []) [] (1 ∷ []) (2 ∷ []) [] (2 ∷ []) [] [])
+    -- S11: fold of reboot, publish: never
+    ∷ (11, theFold job (journal (reboot ∷ publish ∷ [])) ≡ Recorded.Made impossible)
+    -- S12: empty stem, lap of reboot alone: starved, step 1. Lap of reboot, check: accepted
+    ∷ (12, LapAnswer job start [] (journal (reboot ∷ [])) (Lapped.Starved (record { 0 = 1 })) × LapAnswer job start [] (journal (reboot ∷ check ∷ [])) Lapped.Accepted)
     -- S13: tracker from start, reboot: i 1, flag down; then check: i 2, flag up
     ∷ (13, (tracking job (theStart job start) reboot ≡ at rebooted 1 false) × (tracking job (tracking job (theStart job start) reboot) check ≡ at checked 2 true))
     ∷ []
 
+-- the laps of S12 are decided by computing, and the decision is right for the run without end
+starved : theLap job start [] (journal (reboot ∷ [])) ≡ Lapped.Starved (record { 0 = 1 })
+unfolding journal set rows targets sources table job first numberOf keeps setsFit has full scan lowest every theLap lapOf decision legOn goOn upon entryMove moveOf entries
+starved = refl
+
+accepted : theLap job start [] (journal (reboot ∷ check ∷ [])) ≡ Lapped.Accepted
+unfolding journal set rows targets sources table job first numberOf keeps setsFit has full scan lowest every theLap lapOf decision legOn goOn upon entryMove moveOf entries
+accepted = refl
+
+twelve : LapAnswer job start [] (journal (reboot ∷ [])) (Lapped.Starved (record { 0 = 1 })) × LapAnswer job start [] (journal (reboot ∷ check ∷ [])) Lapped.Accepted
+twelve = (
+  subst (LapAnswer job start [] (journal (reboot ∷ []))) starved (the-lap-right job start [] (journal (reboot ∷ []))),
+  subst (LapAnswer job start [] (journal (reboot ∷ check ∷ []))) accepted (the-lap-right job start [] (journal (reboot ∷ check ∷ []))),
+)
+
 pub samples-hold : Hold samples
-unfolding samples set rows targets sources table given job tracking first numberOf stepOf keeps setsFit theMove moveOf theStart theStep trackAfter trackedOf has full scan lowest every
-samples-hold = refl also (refl, refl) also refl also (refl, refl) also refl also refl also refl also (refl, refl) also tt
+unfolding samples set rows targets sources table given job tracking first numberOf stepOf keeps setsFit theMove moveOf theStart theStep trackAfter trackedOf has full scan lowest every journal theFold recordedOf foldOf entryRecord tidy join entries
+samples-hold = refl also (refl, refl) also refl also (refl, refl) also refl also refl also refl also refl also refl also refl also refl also twelve also (refl, refl) also tt
