@@ -1,5 +1,6 @@
 -- Graphs (Definitions 3 and 5), and when one handed over as a value is refused.
 use Prim.Native.Nat.{ℕ, _≤_}
+use mathlib.Core.Path.{_≡_}
 use mathlib.Core.List.{List, [], _∷_}
 use mathlib.Core.Bool.{Bool, true, false, not, _&&_, cond}
 use lib.ListN.{length, getD}
@@ -121,3 +122,10 @@ pub record Reach (k : ℕ) (a b c d : List ℕ) : Type 0 where
   pub second : k ≤ length b
   pub third : k ≤ length c
   pub fourth : k ≤ length d
+
+-- each of four tables has k rows
+pub record Sized (k : ℕ) (a b c d : List ℕ) : Type 0 where
+  pub first : length a ≡ k
+  pub second : length b ≡ k
+  pub third : length c ≡ k
+  pub fourth : length d ≡ k

@@ -21,7 +21,7 @@ use Rattle.rules.specs.declared.Move.{Move}
 use Rattle.rules.specs.declared.Ending.{Ending}
 use Rattle.rules.specs.declared.Refusal.the-variants.{Outside, Unknown}
 use Rattle.rules.specs.First.{Line, first, number, numberOf}
-use Rattle.rules.specs.Graph.{row, keeps, beyond, rowsTogether, rowsShared, rolesFit, arrowsFit, kindsApart, graphLines, graphVerdict, countsFit, within1to}
+use Rattle.rules.specs.Graph.{row, keeps, beyond, rowsTogether, rowsShared, Sized, rolesFit, arrowsFit, kindsApart, graphLines, graphVerdict, countsFit, within1to}
 use Rattle.rules.specs.Move.{moveOf, entryMove, moveOn, theMove, theEnding, endingOn, endingOf, isFinished, known, markingFits, moveLines, entryLines, markingLines, sizeLines, rowLines, rowOf, after, noMarking}
 
 -- ---- the first line that holds
@@ -237,6 +237,19 @@ arrows-keep k r s t u inside all past n h lr ls lt lu pa pp =
     ∙ gathered-kept 64 k k (rowsTogether r s t u) h
     ∙ kept-union 64 k k (λ i. union (row r i) (row s i)) (λ i. union (row t i) (row u i))
     ∙ ap₂ _&&_ (kept-union 64 k k (row r) (row s) ∙ ap₂ _&&_ (keeps-64 k r lr) (keeps-64 k s ls)) (kept-union 64 k k (row t) (row u) ∙ ap₂ _&&_ (keeps-64 k t lt) (keeps-64 k u lu))
+
+-- a table of 64 words names no step beyond 64, and has no row beyond
+words-keep : (t : List ℕ) → length t ≡ 64 → ((i : ℕ) → row t i < 2 ^ 64) → keeps 64 64 t ≡ true
+unfolding keeps
+words-keep t e w =
+    every-of (length t) (λ i. within (cond (ltb i 64) 64 0) (row t i))
+    (λ i h. subst (λ (b : Bool). within (cond b 64 0) (row t i) ≡ true) (sym (lt-ltb i 64 (omega arith))) (lt-ltb (row t i) (2 ^ 64) (w i)))
+
+pub words-fit : (r s t u : List ℕ) → Sized 64 r s t u
+    → ((i : ℕ) → row r i < 2 ^ 64) → ((i : ℕ) → row s i < 2 ^ 64) → ((i : ℕ) → row t i < 2 ^ 64) → ((i : ℕ) → row u i < 2 ^ 64)
+    → true ≡ arrowsFit 64 r s t u
+words-fit r s t u l wr ws wt wu =
+    sym (and-intro (and-intro (words-keep r (l .first) wr) (words-keep s (l .second) ws)) (and-intro (words-keep t (l .third) wt) (words-keep u (l .fourth) wu)))
 
 -- nothing is shared exactly if no pair is both include and exclude
 pub shared-apart : (k : ℕ) (t u : List ℕ) (both : ℕ) → both ≡ gather k (rowsShared t u) → empty both ≡ kindsApart k t u

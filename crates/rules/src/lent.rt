@@ -3,7 +3,7 @@ ghost use mathlib.Core.Path.{_≡_};
 ghost use Prim.Native.Nat.{ℕ, _<_, _≤_};
 ghost use lib.ListN.{length};
 ghost use Rattle.sets.specs.Sets.{gather};
-ghost use Rattle.rules.specs.Graph.{row, beyond, rowsTogether, rowsShared, Reach, countsFit, rolesFit, arrowsFit, kindsApart, lentGraph, graphVerdict};
+ghost use Rattle.rules.specs.Graph.{row, beyond, rowsTogether, rowsShared, Reach, Sized, countsFit, rolesFit, arrowsFit, kindsApart, lentGraph, graphVerdict};
 ghost use Rattle.rules.specs.Move.{theMove, theEnding, moveOn, endingOn, entryMove, rowOf};
 ghost use Rattle.rules.specs.First.{first};
 use crate::Ending;
@@ -133,6 +133,38 @@ fn roles_fit<'a>(
     (((a as u64) | (b as u64)) <= sets::full(roles)) & (x | y == 0)
 }
 
+// What some step both includes and excludes, of 64 steps.
+fn arrows_shared<'a>(includes: &'a [u64], excludes: &'a [u64]) -> u64
+    requires { ⌜ (64 ≤ length (now includes)) × (64 ≤ length (now excludes)) ⌝ }
+    ensures { λ r. ⌜ r ≡ gather 64 (rowsShared (now (includes .entry)) (now (excludes .entry))) ⌝ }
+{
+    let mut both = 0;
+    let mut i = 0;
+    while i < 64 {
+        both = both | (includes[i] & excludes[i]);
+        i += 1;
+    }
+    both
+}
+
+// A graph of 64 steps: no word names a step beyond, and no row stands beyond.
+fn arrows_full<'a>(
+    conditions: &'a [u64],
+    responses: &'a [u64],
+    includes: &'a [u64],
+    excludes: &'a [u64],
+) -> Arrows
+    requires { ⌜ Sized 64 (now conditions) (now responses) (now includes) (now excludes) ⌝ }
+    ensures { λ r. ⌜ r .fit ≡ arrowsFit 64 (now (conditions .entry)) (now (responses .entry)) (now (includes .entry)) (now (excludes .entry)) ⌝ }
+    ensures { λ r. ⌜ r .apart ≡ kindsApart 64 (now (includes .entry)) (now (excludes .entry)) ⌝ }
+{
+    let both = arrows_shared(includes, excludes);
+    Arrows {
+        fit: true,
+        apart: both == 0,
+    }
+}
+
 fn arrows_checked<'a>(
     steps: u8,
     conditions: &'a [u64; 64],
@@ -144,6 +176,9 @@ fn arrows_checked<'a>(
     ensures { λ r. ⌜ r .fit ≡ arrowsFit steps (now (conditions .entry)) (now (responses .entry)) (now (includes .entry)) (now (excludes .entry)) ⌝ }
     ensures { λ r. ⌜ r .apart ≡ kindsApart steps (now (includes .entry)) (now (excludes .entry)) ⌝ }
 {
+    if steps == 64 {
+        return arrows_full(conditions, responses, includes, excludes);
+    }
     let n = steps as usize;
     let seen = arrows_named(conditions, responses, includes, excludes, n);
     let past = arrows_beyond(conditions, responses, includes, excludes, n);
