@@ -65,7 +65,8 @@ impl Report {
         if !covered {
             println!("never came up: {}", missing.join(", "));
         }
-        println!("{cases} cases of each floor, {full} of full length, {} differences", self.differences);
+        println!("of each floor, and {full} of full length:");
+        println!("{cases} cases, {} differences", self.differences);
         covered && self.differences == 0
     }
 
