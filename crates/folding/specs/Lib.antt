@@ -2,3 +2,4 @@ pub mod Fold
 pub mod Answers
 pub mod Laws
 pub mod Answered
+pub mod Theorems

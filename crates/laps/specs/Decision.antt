@@ -19,46 +19,38 @@ use Rattle.laps.specs.Laps.{lapLines}
 
 -- the steps of x that are due and included in m, less s
 abbrev pub still : ℕ → Marking → ℕ → ℕ
-still x m s = minus (meet x (meet (m .due) (m .included))) (single s)
+still x m s = minus (meet (meet (m .due) (m .included)) x) (single s)
 
--- entry k in marking m: where it is allowed the leg goes on with the marking after, else it ends there
-unfoldable pub goOn : ℕ → ℕ → Marking → Move → (Marking → Leg) → Leg
-goOn k x m (Move.Moved next) rest = rest next
-goOn k x m (Move.Refused r back) rest = record { verdict = Verdict.Refused r; index = k; at = m; left = x }
+-- entry k in marking m: where it is allowed the leg goes on with the marking after, else it stops there
+unfoldable pub goOn : ℕ → Move → (Marking → Leg) → Leg
+goOn k (Move.Moved next) rest = rest next
+goOn k (Move.Refused r back) rest = Leg.Stopped k r
 
 -- through the entries from entry k on, in marking m, with x left so far
 unfoldable pub legOn : Graph → Marking → ℕ → ℕ → List Entry → Leg
-legOn g m x k [] = record { verdict = Verdict.Clear; index = k; at = m; left = x }
-legOn g m x k (e ∷ rest) = goOn k x m (entryMove g m e) (λ next. legOn g next (still x m (e .step .0)) (k + 1) rest)
+legOn g m x k [] = Leg.Ended m x
+legOn g m x k (e ∷ rest) = goOn k (entryMove g m e) (λ next. legOn g next (still x m (e .step .0)) (k + 1) rest)
 
 abbrev pub legOf : Graph → Marking → List Entry → Leg
 legOf g m es = legOn g m (full 64) 0 es
 
--- nothing against the leg: what follows. Else the answer
-unfoldable pub upon : Verdict → ℕ → Pass → Lapped → Lapped
-upon Verdict.Clear k p rest = rest
-upon (Verdict.Refused r) k p rest = Lapped.Stopped k p r
+-- a leg in pass p that ends: what follows. One that stops: the answer
+unfoldable pub upon : Leg → Pass → (Marking → ℕ → Lapped) → Lapped
+upon (Leg.Ended m x) p rest = rest m x
+upon (Leg.Stopped k r) p rest = Lapped.Stopped k p r
 
 -- x stay due and included and are not done
 abbrev pub judged : ℕ → Lapped
 judged x = cond (empty x) Lapped.Accepted (Lapped.Starved (record { 0 = lowest 64 x }))
 
--- the answer where the second lap, the first or the stem is stopped; else by what is left of the second lap
-abbrev pub fromSecond : Leg → Lapped
-fromSecond c = upon (c .verdict) (c .index) Pass.Second (judged (c .left))
+unfoldable pub secondLap : Graph → Marking → List Entry → Lapped
+secondLap g m lap = upon (legOf g m lap) Pass.Second (λ end x. judged x)
 
-abbrev pub fromFirst : Leg → Leg → Lapped
-fromFirst b c = upon (b .verdict) (b .index) Pass.First (fromSecond c)
-
-abbrev pub fromStem : Leg → Leg → Leg → Lapped
-fromStem a b c = upon (a .verdict) (a .index) Pass.Stem (fromFirst b c)
+unfoldable pub firstLap : Graph → Marking → List Entry → Lapped
+firstLap g m lap = upon (legOf g m lap) Pass.First (λ end x. secondLap g end lap)
 
 unfoldable pub decision : Graph → Marking → List Entry → List Entry → Lapped
-decision g m stem lap =
-    let a = legOf g m stem in
-    let b = legOf g (a .at) lap in
-    let c = legOf g (b .at) lap in
-    fromStem a b c
+decision g m stem lap = upon (legOf g m stem) Pass.Stem (λ end x. firstLap g end lap)
 
 -- before any entry is looked at, the table
 unfoldable pub lapOf : Verdict → Lapped → Lapped

@@ -74,9 +74,14 @@ passOfLap (Lapped.Stopped k p r) = numberOfPass p
 
 -- ---- the table, before any entry is looked at: 2, 4, 6, 7, 8, 17
 
+abbrev pub lengthsLines : List ℕ → List ℕ → List Line
+lengthsLines stem lap = (Length, not (lengthFits stem && lengthFits lap)) ∷ []
+
+abbrev pub emptyLines : List ℕ → List Line
+emptyLines lap = (EmptyLap, eqb (length lap) 0) ∷ []
+
 abbrev pub lapLines : Graph → Marking → List ℕ → List ℕ → List Line
-lapLines g m stem lap =
-    graphLines g ++ (Length, not (lengthFits stem && lengthFits lap)) ∷ markingLines g m ++ (EmptyLap, eqb (length lap) 0) ∷ []
+lapLines g m stem lap = graphLines g ++ lengthsLines stem lap ++ markingLines g m ++ emptyLines lap
 
 -- ---- the answer
 

@@ -1,6 +1,6 @@
 -- Going through entries, at the positions of an endless run: what a leg over the n entries from position i on tells of those positions.
 -- Assumes nothing.
-use Prim.Native.Nat.{ℕ, zero, suc, _+_, _≤_, _<_, zero-le}
+use Prim.Native.Nat.{ℕ, zero, suc, _+_, _≤_, _<_}
 use mathlib.Core.Path.{_≡_, refl, sym, ap, ap₂, _∙_, subst}
 use mathlib.Core.Logic.{_⊎_, inl, inr}
 use mathlib.Core.List.{List, [], _∷_}
@@ -11,7 +11,7 @@ use native.Mathlib.Decide.{decLt}
 use lib.ListN.{length, getD}
 use lib.Dec.{eqb}
 use borrow.Author.Tests.{eqb-true, eq-eqb}
-use Rattle.sets.specs.Sets.{has, single, union, meet, minus}
+use Rattle.sets.specs.Sets.{has}
 use Rattle.sets.specs.Laws.{has-union, has-meet, has-minus, has-single}
 use Rattle.rules.specs.declared.Graph.{Graph}
 use Rattle.rules.specs.declared.inner.Row.{Row}
@@ -19,7 +19,6 @@ use Rattle.rules.specs.declared.Marking.{Marking}
 use Rattle.rules.specs.declared.Entry.{Entry}
 use Rattle.rules.specs.declared.Refusal.{Refusal}
 use Rattle.rules.specs.declared.Verdict.{Verdict}
-use Rattle.rules.specs.declared.Move.{Move}
 use Rattle.rules.specs.Move.{rowOf, after, moveOf, entryMove}
 use Rattle.folding.specs.Fold.{afterAll}
 use Rattle.laps.specs.declared.lent.Leg.{Leg}
@@ -28,20 +27,20 @@ use Rattle.laps.specs.Decision.{still, goOn, legOn}
 
 -- ---- one step
 
-all-four : (a b c d : Bool) → ((a && (b && c)) && not d) ≡ true → (a ≡ true) × (b ≡ true) × (c ≡ true) × (d ≡ false)
+all-four : (a b c d : Bool) → (((b && c) && a) && not d) ≡ true → (a ≡ true) × (b ≡ true) × (c ≡ true) × (d ≡ false)
 all-four true true true false e = (refl, refl, refl, refl)
 all-four true true true true e = absurd (false≢true e)
-all-four true true false d e = absurd (false≢true e)
-all-four true false c d e = absurd (false≢true e)
-all-four false b c d e = absurd (false≢true e)
+all-four false true true d e = absurd (false≢true e)
+all-four a true false d e = absurd (false≢true e)
+all-four a false c d e = absurd (false≢true e)
 
-one-fails : (b c d : Bool) → ((true && (b && c)) && not d) ≡ false → (b ≡ false) ⊎ ((d ≡ true) ⊎ (c ≡ false))
+one-fails : (b c d : Bool) → (((b && c) && true) && not d) ≡ false → (b ≡ false) ⊎ ((d ≡ true) ⊎ (c ≡ false))
 one-fails true true true e = inr (inl refl)
 one-fails true true false e = absurd (true≢false e)
 one-fails true false d e = inr (inr refl)
 one-fails false c d e = inl refl
 
-has-still : (x : ℕ) (m : Marking) (s t : ℕ) → has (still x m s) t ≡ ((has x t && (has (m .due) t && has (m .included) t)) && not (eqb s t))
+has-still : (x : ℕ) (m : Marking) (s t : ℕ) → has (still x m s) t ≡ (((has (m .due) t && has (m .included) t) && has x t) && not (eqb s t))
 has-still x m s t = simp (has-minus, has-meet, has-single)
 
 -- what is still there was there, is due and included, and is not the step done
@@ -56,7 +55,7 @@ still-gone : (x : ℕ) (m : Marking) (s t : ℕ) → has x t ≡ true → has (s
     → (has (m .due) t ≡ false) ⊎ ((t ≡ s) ⊎ (has (m .included) t ≡ false))
 still-gone x m s t h e =
     go (one-fails (has (m .due) t) (has (m .included) t) (eqb s t)
-    (ap (λ (p : Bool). (p && (has (m .due) t && has (m .included) t)) && not (eqb s t)) (sym h) ∙ sym (has-still x m s t) ∙ e))
+    (ap (λ (p : Bool). ((has (m .due) t && has (m .included) t) && p) && not (eqb s t)) (sym h) ∙ sym (has-still x m s t) ∙ e))
   where
     go : (has (m .due) t ≡ false) ⊎ ((eqb s t ≡ true) ⊎ (has (m .included) t ≡ false)) → (has (m .due) t ≡ false) ⊎ ((t ≡ s) ⊎ (has (m .included) t ≡ false))
     go (inl p) = inl p
@@ -160,25 +159,24 @@ module _ (g : Graph) (m : Marking) (e : ℕ → Entry) where
 
   -- all n entries are allowed
   pub record Passed (i n w : ℕ) (leg : Leg) : Type 0 where
-    pub clear : leg .verdict ≡ Verdict.Clear
-    pub end : leg .at ≡ M (i + n)
+    pub left : ℕ
+    pub is : leg ≡ Leg.Ended (M (i + n)) left
     pub allowed : (j : ℕ) → i ≤ j → j < i + n → says j ≡ Verdict.Clear
-    pub kept : Kept i n w (leg .left)
+    pub kept : Kept i n w left
 
   -- one of them is not
   pub record Barred (i n k : ℕ) (leg : Leg) : Type 0 where
     pub depth : ℕ
     pub refusal : Refusal
     pub small : depth < n
-    pub index : leg .index ≡ k + depth
-    pub verdict : leg .verdict ≡ Verdict.Refused refusal
+    pub is : leg ≡ Leg.Stopped (k + depth) refusal
     pub before : (j : ℕ) → i ≤ j → j < i + depth → says j ≡ Verdict.Clear
     pub here : says (i + depth) ≡ Verdict.Refused refusal
 
   leg-walks : (n i w k : ℕ) → Passed i n w (legOn g (M i) w k (chunk e n i)) ⊎ Barred i n k (legOn g (M i) w k (chunk e n i))
   unfolding legOn chunk goOn entryMove moveOf markingAt
   leg-walks zero i w k =
-      inl (record { clear = refl; end = ap M (sym (add-zero i)); allowed = λ j a b. absurd (let z : ⊥ = omega arith in z); kept = kept-none i w })
+      inl (record { left = w; is = ap (λ (j : ℕ). Leg.Ended (M j) w) (sym (add-zero i)); allowed = λ j a b. absurd (let z : ⊥ = omega arith in z); kept = kept-none i w })
   leg-walks (suc n) i w k = go (says i) refl (leg-walks n (suc i) (still w (M i) (stepAt g m e i)) (k + 1))
     where
       rest : Leg
@@ -193,24 +191,22 @@ module _ (g : Graph) (m : Marking) (e : ℕ → Entry) where
           at (no p) = ap says (let z : j ≡ i = omega arith in z) ∙ q
 
       go : (v : Verdict) → says i ≡ v → Passed (suc i) n (still w (M i) (stepAt g m e i)) rest ⊎ Barred (suc i) n (k + 1) rest
-          → Passed i (suc n) w (goOn k w (M i) (moveOf v (M i) (M (suc i))) (λ next. legOn g next (still w (M i) (stepAt g m e i)) (k + 1) (chunk e n (suc i))))
-          ⊎ Barred i (suc n) k (goOn k w (M i) (moveOf v (M i) (M (suc i))) (λ next. legOn g next (still w (M i) (stepAt g m e i)) (k + 1) (chunk e n (suc i))))
+          → Passed i (suc n) w (goOn k (moveOf v (M i) (M (suc i))) (λ next. legOn g next (still w (M i) (stepAt g m e i)) (k + 1) (chunk e n (suc i))))
+          ⊎ Barred i (suc n) k (goOn k (moveOf v (M i) (M (suc i))) (λ next. legOn g next (still w (M i) (stepAt g m e i)) (k + 1) (chunk e n (suc i))))
       go Verdict.Clear q (inl p) =
           inl (record {
-            clear = p .clear;
-            end = p .end ∙ ap M (let z : suc i + n ≡ i + suc n = omega arith in z);
+            left = p .left;
+            is = p .is ∙ ap (λ (j : ℕ). Leg.Ended (M j) (p .left)) (let z : suc i + n ≡ i + suc n = omega arith in z);
             allowed = first-too q n (p .allowed);
-            kept = kept-more i n w (rest .left) (p .kept);
+            kept = kept-more i n w (p .left) (p .kept);
           })
       go Verdict.Clear q (inr b) =
           let small : b .depth < n = b .small in
-          let index : rest .index ≡ k + 1 + b .depth = b .index in
           inr (record {
             depth = suc (b .depth);
             refusal = b .refusal;
             small = (let z : suc (b .depth) < suc n = omega arith in z);
-            index = index ∙ (let z : k + 1 + b .depth ≡ k + suc (b .depth) = omega arith in z);
-            verdict = b .verdict;
+            is = b .is ∙ ap (λ (j : ℕ). Leg.Stopped j (b .refusal)) (let z : k + 1 + b .depth ≡ k + suc (b .depth) = omega arith in z);
             before = first-too q (b .depth) (b .before);
             here = ap says (let z : i + suc (b .depth) ≡ suc i + b .depth = omega arith in z) ∙ b .here;
           })
@@ -219,8 +215,7 @@ module _ (g : Graph) (m : Marking) (e : ℕ → Entry) where
             depth = 0;
             refusal = r;
             small = (let z : 0 < suc n = omega arith in z);
-            index = sym (add-zero k);
-            verdict = refl;
+            is = ap (λ (j : ℕ). Leg.Stopped j r) (sym (add-zero k));
             before = λ j a b. absurd (let z : ⊥ = omega arith in z);
             here = ap says (add-zero i) ∙ q;
           })

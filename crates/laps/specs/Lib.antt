@@ -1,8 +1,10 @@
 pub mod Endless
 pub mod Laps
 pub mod Decision
+pub mod More
 pub mod Legs
 pub mod Repeats
 pub mod Places
 pub mod Ways
+pub mod Right
 pub mod Laws

@@ -11,6 +11,7 @@ use native.Mathlib.Decide.{decLt}
 use lib.ListN.{length, getD}
 use lib.Dec.{ltb}
 use borrow.Author.Tests.{lt-ltb, le-ltb}
+use Rattle.sets.specs.Sets.{has}
 use Rattle.rules.specs.declared.Graph.{Graph}
 use Rattle.rules.specs.declared.Marking.{Marking}
 use Rattle.rules.specs.declared.Entry.{Entry}
@@ -20,10 +21,10 @@ use Rattle.journal.specs.Journal.{entryOf}
 use Rattle.folding.specs.Fold.{afterAll}
 use Rattle.folding.specs.Laws.{after-twice}
 use Rattle.laps.specs.declared.Pass.{Pass}
-use Rattle.laps.specs.Endless.{markingAt, verdictAt, GoesOn, Waiting, Starving}
+use Rattle.laps.specs.Endless.{markingAt, verdictAt, DueAt, GoesOn, Waiting, Starving}
 use Rattle.laps.specs.Laps.{runOf, indexAt, passAt, numberOfPass, Stops}
-use Rattle.laps.specs.Legs.{chunk, chunk-is, after-chunk}
-use Rattle.laps.specs.Repeats.{for-ever, starving-from}
+use Rattle.laps.specs.Legs.{chunk, chunk-is, after-chunk, Kept}
+use Rattle.laps.specs.Repeats.{Decides, for-ever, starving-from, period-decides}
 
 -- ---- where a position stands
 
@@ -114,18 +115,22 @@ module _ (stem lap : List Entry) (some : 0 < length lap) where
     abbrev says : ℕ → Verdict
     says i = verdictAt g m e i
 
-    pub marking-again : M (second-lap + length lap) ≡ M second-lap
+    marking-again : M (second-lap + length lap) ≡ M second-lap
     marking-again =
         let one : M second-lap ≡ afterAll g (M first-lap) lap = sym (after-chunk g m e (length lap) first-lap) ∙ ap (afterAll g (M first-lap)) lap-stands in
         let two : M (second-lap + length lap) ≡ afterAll g (M second-lap) lap = sym (after-chunk g m e (length lap) second-lap) ∙ ap (afterAll g (M second-lap)) lap-stands-again in
         two ∙ ap (λ (x : Marking). afterAll g x lap) one ∙ after-twice g lap (M first-lap) ∙ sym one
 
-    pub entry-again : (i : ℕ) → second-lap ≤ i → e (i + length lap) ≡ e i
+    entry-again : (i : ℕ) → second-lap ≤ i → e (i + length lap) ≡ e i
     entry-again i h = run-again i (let z : length stem ≤ i = omega arith in z)
 
     -- a lap allowed twice is allowed for ever
     pub twice-for-ever : ((i : ℕ) → i < second-lap + length lap → says i ≡ Verdict.Clear) → GoesOn g m e
     twice-for-ever h = for-ever g m e second-lap (length lap) some entry-again marking-again h
+
+    -- the steps that wait throughout the second lap are those that starve
+    pub second-decides : (w x : ℕ) → Kept g m e second-lap (length lap) w x → ((i s : ℕ) → DueAt g m e i s → has w s ≡ true) → Decides g m e x
+    second-decides = period-decides g m e second-lap (length lap) some entry-again marking-again
 
     -- a step that starves waits at every position from the end of the first lap on
     pub starving-laps : (s : ℕ) → Starving g m e s → (i : ℕ) → second-lap ≤ i → Waiting g m e i s

@@ -57,6 +57,25 @@ module _ (g : Graph) (m : Marking) (e : ℕ → Entry) where
   same-ends i j s f (inr (inl p)) = inr (inl (same-done i j s f p))
   same-ends i j s f (inr (inr p)) = inr (inr (sym (same-included i j s f) ∙ p))
 
+  -- where a step waits its waiting does not end
+  waits-ends : (i s : ℕ) → Waiting g m e i s → Ends g m e i s → ⊥
+  waits-ends i s v (inl p) = true≢false (sym (v .due) ∙ p)
+  waits-ends i s v (inr (inl p)) = v .undone p
+  waits-ends i s v (inr (inr p)) = true≢false (sym (v .included) ∙ p)
+
+  -- where the waiting of a step that was due ends, the step has been done or is not included
+  ends-after : (i s : ℕ) → DueAt g m e i s → (j : ℕ) → i ≤ j → Ends g m e j s → (k : ℕ) × (i ≤ k) × (DoneAt g m e k s ⊎ ExcludedAt g m e k s)
+  ends-after i s due j h (inl p) =
+      let d = done-between g m e (j - i) i s due (ap (λ (k : ℕ). has (M k .due) s) (let z : i + (j - i) ≡ j = omega arith in z) ∙ p) in
+      (d .0, d .1, inl (d .2))
+  ends-after i s due j h (inr p) = (j, h, p)
+
+  -- x are the steps that starve, and the run is accepting where there are none
+  pub record Decides (x : ℕ) : Type 0 where
+    pub starving : (s : ℕ) → has x s ≡ true → Starving g m e s
+    pub others : (s : ℕ) → has x s ≡ false → Starving g m e s → ⊥
+    pub accepting : ((s : ℕ) → has x s ≡ false) → Accepting g m e
+
   module _ (b l : ℕ) (some : 0 < l) (again : (i : ℕ) → b ≤ i → e (i + l) ≡ e i) (back : M (b + l) ≡ M b) where
     markings-again : (d : ℕ) → M (d + b + l) ≡ M (d + b)
     unfolding markingAt
@@ -115,32 +134,13 @@ module _ (g : Graph) (m : Marking) (e : ℕ → Entry) where
         let r = later (st .0) i h in
         same-waiting (r .0) i s (r .3) (st .1 (r .0) (r .1))
 
-    module _ (w x : ℕ) (kept : Kept g m e b l w x) (known : (i s : ℕ) → DueAt g m e i s → has w s ≡ true) where
-      -- what is left of the first period starves
-      pub left-starving : (s : ℕ) → has x s ≡ true → Starving g m e s
-      left-starving s h = (b, waits-on s (kept .only s h .1))
-
-      -- and nothing else does
-      pub starving-left : (s : ℕ) → Starving g m e s → has x s ≡ false → ⊥
-      starving-left s st h =
-          let due : DueAt g m e b s = starving-from s st b (le-refl b) .due in
-          let f = kept .gone s (known b s due) h in
-          go (f .0) (starving-from s st (f .0) (f .1)) (f .3)
-        where
-          go : (j : ℕ) → Waiting g m e j s → Ends g m e j s → ⊥
-          go j v (inl p) = true≢false (sym (v .due) ∙ p)
-          go j v (inr (inl p)) = v .undone p
-          go j v (inr (inr p)) = true≢false (sym (v .included) ∙ p)
-
-      -- where nothing is left, the run is accepting
-      pub none-accepting : ((s : ℕ) → has x s ≡ false) → Accepting g m e
-      none-accepting none i s due =
-          let f = kept .gone s (known i s due) (none s) in
-          let r = later i (f .0) (f .1) in
-          go (r .0) (r .1) (same-ends (f .0) (r .0) s (same-back (r .0) (f .0) (r .3)) (f .3))
-        where
-          go : (j : ℕ) → i ≤ j → Ends g m e j s → (k : ℕ) × (i ≤ k) × (DoneAt g m e k s ⊎ ExcludedAt g m e k s)
-          go j h (inl p) =
-              let d = done-between g m e (j - i) i s due (ap (λ (k : ℕ). has (M k .due) s) (let z : i + (j - i) ≡ j = omega arith in z) ∙ p) in
-              (d .0, d .1, inl (d .2))
-          go j h (inr p) = (j, h, p)
+    -- what the steps that wait throughout the first period tell of the run
+    pub period-decides : (w x : ℕ) → Kept g m e b l w x → ((i s : ℕ) → DueAt g m e i s → has w s ≡ true) → Decides x
+    period-decides w x kept known =
+        record {
+          starving = λ s h. (b, waits-on s (kept .only s h .1));
+          others = λ s h st. let f = kept .gone s (known b s (starving-from s st b (le-refl b) .due)) h in waits-ends (f .0) s (starving-from s st (f .0) (f .1)) (f .3);
+          accepting = λ none i s due. let f = kept .gone s (known i s due) (none s) in
+              let r = later i (f .0) (f .1) in
+              ends-after i s due (r .0) (r .1) (same-ends (f .0) (r .0) s (same-back (r .0) (f .0) (r .3)) (f .3));
+        }

@@ -6,7 +6,7 @@ ghost use Rattle.rules.specs.Graph.{lentGraph};
 ghost use Rattle.sets.specs.Sets.{lowest};
 ghost use Rattle.journal.specs.Journal.{entries};
 ghost use Rattle.laps.specs.Laps.{LapAnswer};
-ghost use Rattle.laps.specs.Decision.{still, judged, legOf, decision};
+ghost use Rattle.laps.specs.Decision.{still, judged, legOf, secondLap, firstLap, decision};
 use crate::Lapped;
 use crate::Pass;
 use journal::inner::entry_at;
@@ -20,13 +20,11 @@ use rules::Verdict;
 // Every step there could be.
 const ALL: u64 = 18446744073709551615;
 
-// Where going through a journal leads: nothing against its entries, or the refusal of entry `index`; the marking then; and the steps that
-// were due and included in every marking on the way, and not done.
-pub struct Leg {
-    pub verdict: Verdict,
-    pub index: u16,
-    pub at: Marking,
-    pub left: u64,
+// Where going through a journal leads: to its end, with the marking there and the steps that were due and included in every marking on the
+// way and not done; or to the first entry that is not allowed, with its index.
+pub enum Leg {
+    Ended(Marking, u64),
+    Stopped(u16, Refusal),
 }
 
 // The steps of x that are due and included in m, less s.
@@ -34,7 +32,7 @@ fn remain(x: u64, m: Marking, s: u8) -> u64
     requires { ⌜ s < 64 ⌝ }
     ensures { λ r. ⌜ r ≡ still x m s ⌝ }
 {
-    let open = x & (m.due & m.included);
+    let open = (m.due & m.included) & x;
     open ^ (open & sets::single(s))
 }
 
@@ -96,25 +94,99 @@ fn go_through<'a>(
                 at = next;
             }
             Move::Refused(r, _) => {
-                return Leg {
-                    verdict: Verdict::Refused(r),
-                    index: k as u16,
-                    at,
-                    left,
-                };
+                return Leg::Stopped(k as u16, r);
             }
         }
         k += 1;
     }
-    Leg {
-        verdict: Verdict::Clear,
-        index: k as u16,
-        at,
-        left,
+    Leg::Ended(at, left)
+}
+
+// The lap's second time. Refusals 11 to 15.
+fn second_lap<'a>(
+    steps: u8,
+    people: u8,
+    roles: u8,
+    allows: &'a [u16; 64],
+    holds: &'a [u16; 16],
+    conditions: &'a [u64; 64],
+    responses: &'a [u64; 64],
+    includes: &'a [u64; 64],
+    excludes: &'a [u64; 64],
+    m: Marking,
+    lap: &[u8],
+) -> Lapped
+    requires { ⌜ (steps ≤ 64) × (people ≤ 16) × (roles ≤ 16) × (length (now lap) % 3 ≡ 0) × (length (now lap) ≤ 65535) ⌝ }
+    ensures { λ r. ⌜ r ≡ secondLap (lentGraph steps people roles (now (allows .entry)) (now (holds .entry)) (now (conditions .entry)) (now (responses .entry)) (now (includes .entry)) (now (excludes .entry))) m (entries (now (lap .entry))) ⌝ }
+{
+    let leg = go_through(
+        steps,
+        people,
+        roles,
+        allows,
+        holds,
+        conditions,
+        responses,
+        includes,
+        excludes,
+        m,
+        lap,
+    );
+    match leg {
+        Leg::Stopped(k, r) => Lapped::Stopped(k, Pass::Second, r),
+        Leg::Ended(_, left) => judge(left),
     }
 }
 
-// The stem and the lap twice, on a graph, journals and a marking that are as they should be. Refusals 11 to 15.
+// The lap's first time, and then its second. Refusals 11 to 15.
+fn first_lap<'a>(
+    steps: u8,
+    people: u8,
+    roles: u8,
+    allows: &'a [u16; 64],
+    holds: &'a [u16; 16],
+    conditions: &'a [u64; 64],
+    responses: &'a [u64; 64],
+    includes: &'a [u64; 64],
+    excludes: &'a [u64; 64],
+    m: Marking,
+    lap: &[u8],
+) -> Lapped
+    requires { ⌜ (steps ≤ 64) × (people ≤ 16) × (roles ≤ 16) × (length (now lap) % 3 ≡ 0) × (length (now lap) ≤ 65535) ⌝ }
+    ensures { λ r. ⌜ r ≡ firstLap (lentGraph steps people roles (now (allows .entry)) (now (holds .entry)) (now (conditions .entry)) (now (responses .entry)) (now (includes .entry)) (now (excludes .entry))) m (entries (now (lap .entry))) ⌝ }
+{
+    let leg = go_through(
+        steps,
+        people,
+        roles,
+        allows,
+        holds,
+        conditions,
+        responses,
+        includes,
+        excludes,
+        m,
+        lap,
+    );
+    match leg {
+        Leg::Stopped(k, r) => Lapped::Stopped(k, Pass::First, r),
+        Leg::Ended(again, _) => second_lap(
+            steps,
+            people,
+            roles,
+            allows,
+            holds,
+            conditions,
+            responses,
+            includes,
+            excludes,
+            again,
+            lap,
+        ),
+    }
+}
+
+// The stem, and then the lap twice, on a graph, journals and a marking that are as they should be. Refusals 11 to 15.
 fn decide<'a>(
     steps: u8,
     people: u8,
@@ -132,7 +204,7 @@ fn decide<'a>(
     requires { ⌜ (steps ≤ 64) × (people ≤ 16) × (roles ≤ 16) × (length (now stem) % 3 ≡ 0) × (length (now stem) ≤ 65535) × (length (now lap) % 3 ≡ 0) × (length (now lap) ≤ 65535) ⌝ }
     ensures { λ r. ⌜ r ≡ decision (lentGraph steps people roles (now (allows .entry)) (now (holds .entry)) (now (conditions .entry)) (now (responses .entry)) (now (includes .entry)) (now (excludes .entry))) m (entries (now (stem .entry))) (entries (now (lap .entry))) ⌝ }
 {
-    let a = go_through(
+    let leg = go_through(
         steps,
         people,
         roles,
@@ -145,45 +217,22 @@ fn decide<'a>(
         m,
         stem,
     );
-    let v = a.verdict;
-    if let Verdict::Refused(r) = v {
-        return Lapped::Stopped(a.index, Pass::Stem, r);
+    match leg {
+        Leg::Stopped(k, r) => Lapped::Stopped(k, Pass::Stem, r),
+        Leg::Ended(start, _) => first_lap(
+            steps,
+            people,
+            roles,
+            allows,
+            holds,
+            conditions,
+            responses,
+            includes,
+            excludes,
+            start,
+            lap,
+        ),
     }
-    let b = go_through(
-        steps,
-        people,
-        roles,
-        allows,
-        holds,
-        conditions,
-        responses,
-        includes,
-        excludes,
-        a.at,
-        lap,
-    );
-    let w = b.verdict;
-    if let Verdict::Refused(r) = w {
-        return Lapped::Stopped(b.index, Pass::First, r);
-    }
-    let c = go_through(
-        steps,
-        people,
-        roles,
-        allows,
-        holds,
-        conditions,
-        responses,
-        includes,
-        excludes,
-        b.at,
-        lap,
-    );
-    let x = c.verdict;
-    if let Verdict::Refused(r) = x {
-        return Lapped::Stopped(c.index, Pass::Second, r);
-    }
-    judge(c.left)
 }
 
 // Refusals 2, 4, 6, 7, 8, 17, then 11 to 15 of the earliest refused entry.

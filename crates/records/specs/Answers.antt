@@ -44,3 +44,18 @@ appliedOf (Verdict.Refused q) before next = Applied.Refused q (cond (leb 11 (num
 
 unfoldable pub theApplication : ℕ → Record → Marking → Applied
 theApplication n r m = appliedOf (first (applyLines n r m)) m (gives r m)
+
+-- ---- document 01's number and values of each case: 0 where it is answered
+
+unfoldable pub numberOfRecorded : Recorded → ℕ
+numberOfRecorded (Recorded.Made r) = 0
+numberOfRecorded (Recorded.Refused q) = numberOf q
+
+unfoldable pub numberOfApplied : Applied → ℕ
+numberOfApplied (Applied.Gives m) = 0
+numberOfApplied (Applied.Refused q m) = numberOf q
+
+-- the marking after, or what is given back
+unfoldable pub markingOfApplied : Applied → Marking
+markingOfApplied (Applied.Gives m) = m
+markingOfApplied (Applied.Refused q m) = m

@@ -4,7 +4,7 @@ use Prim.Native.Nat.{ℕ}
 use mathlib.Core.Path.{_≡_, refl, sym, ap, _∙_}
 use mathlib.Core.List.{List, [], _∷_}
 use mathlib.Core.Bool.{Bool, true, false, not, _&&_, _||_, cond, true≢false}
-use mathlib.Core.Option.{Option, none, some, bind}
+use mathlib.Core.Option.{Option, none, some, bind, Option·some-injective, Option·none-ne-some}
 use lib.ListN.{getD}
 use lib.Bits.{or-zero-r}
 use borrow.Author.Tests.{eqb-true}
@@ -17,9 +17,13 @@ use Rattle.records.specs.More.{at-digit, as-sets, by-digits}
 
 -- ---- what a marking lacks
 
--- the steps at which a marking is not as the record needs it
+-- the steps at which a marking is not as the three needs have it
+abbrev lack : ℕ → ℕ → ℕ → Marking → ℕ
+lack needin needex needout m = union (union (minus needin (m .included)) (minus needex (m .done))) (minus (meet needout (m .included)) (m .done))
+
+-- and a record's needs
 abbrev pub lacks : Record → Marking → ℕ
-lacks r m = union (union (minus (r .needin) (m .included)) (minus (r .needex) (m .done))) (minus (meet (r .needout) (m .included)) (m .done))
+lacks r m = lack (r .needin) (r .needex) (r .needout) m
 
 -- a record applies exactly if never is off and the marking lacks nothing
 pub applies-lacks : (r : Record) (m : Marking) → applies r m ≡ (not (r .never) && empty (lacks r m))
@@ -36,29 +40,61 @@ applies-lacks r m = regroup (not (r .never)) _ _ _ ∙ ap (λ (b : Bool). not (r
 pub applies-none : (r : Record) (m : Marking) → applies r m ≡ true → lacks r m ≡ 0
 applies-none r m e = eqb-true (lacks r m) 0 (and-right (not (r .never)) (empty (lacks r m)) (sym (applies-lacks r m) ∙ e))
 
--- ---- records and markings whose sets stand in a list
+-- ---- records and markings whose sets stand in a list; what the list does not reach is empty
 
-abbrev first-of : List ℕ → Record
-first-of v =
+abbrev marking-of : List ℕ → Marking
+marking-of v = record { done = getD v 0 0; due = 0; included = getD v 1 0 }
+
+abbrev record-of : List ℕ → Record
+record-of v =
     record {
       never = false;
-      needin = getD v 0 0;
-      needex = getD v 1 0;
-      needout = getD v 2 0;
-      done = getD v 3 0;
+      needin = getD v 2 0;
+      needex = getD v 3 0;
+      needout = getD v 4 0;
+      done = getD v 5 0;
       dueset = 0;
       dueclear = 0;
-      inset = getD v 4 0;
-      inclear = getD v 5 0;
+      inset = getD v 6 0;
+      inclear = getD v 7 0;
     }
 
-abbrev then-of : List ℕ → Record
-then-of v =
+-- ---- composing
+
+-- what needs put together lack
+lack-sum : (i e o i' e' o' : ℕ) (m : Marking) → lack (union i i') (union e e') (union o o') m ≡ union (lack i e o m) (lack i' e' o' m)
+lack-sum i e o i' e' o' m =
+    as-sets (λ v. lack (union (getD v 2 0) (getD v 5 0)) (union (getD v 3 0) (getD v 6 0)) (union (getD v 4 0) (getD v 7 0)) (marking-of v))
+    (λ v. union (lack (getD v 2 0) (getD v 3 0) (getD v 4 0) (marking-of v)) (lack (getD v 5 0) (getD v 6 0) (getD v 7 0) (marking-of v)))
+    (m .done ∷ m .included ∷ i ∷ e ∷ o ∷ i' ∷ e' ∷ o' ∷ []) (λ i. simp at-digit) (λ i. simp at-digit) refl
+
+gained-twice : (x d e : ℕ) → union x (union d e) ≡ union (union x d) e
+gained-twice x d e =
+    as-sets (λ v. union (getD v 0 0) (union (getD v 1 0) (getD v 2 0))) (λ v. union (union (getD v 0 0) (getD v 1 0)) (getD v 2 0))
+    (x ∷ d ∷ e ∷ []) (λ i. simp at-digit) (λ i. simp at-digit) refl
+
+-- a record's changes, with no needs, and its needs, with no changes
+abbrev changes : Record → Record
+changes r =
     record {
       never = false;
-      needin = getD v 6 0;
-      needex = getD v 7 0;
-      needout = getD v 8 0;
+      needin = 0;
+      needex = 0;
+      needout = 0;
+      done = r .done;
+      dueset = 0;
+      dueclear = 0;
+      inset = r .inset;
+      inclear = r .inclear;
+    }
+
+abbrev needs : Record → Record
+needs r =
+    record {
+      never = false;
+      needin = r .needin;
+      needex = r .needex;
+      needout = r .needout;
       done = 0;
       dueset = 0;
       dueclear = 0;
@@ -66,30 +102,32 @@ then-of v =
       inclear = 0;
     }
 
-abbrev marking-of : List ℕ → Marking
-marking-of v = record { done = getD v 9 0; due = 0; included = getD v 10 0 }
+-- the steps that the second needs included and the first leaves excluded
+abbrev barred : Record → Record → ℕ
+barred a b = meet (b .needin) (minus (a .inclear) (a .inset))
 
-abbrev tidied-at : List ℕ → Marking
-tidied-at v = record { done = getD v 6 0; due = 0; included = getD v 7 0 }
-
--- ---- composing
+-- what b lacks after the changes of a
+lacks-after : (a b : Record) (m : Marking) → union (lacks (compose (changes a) (needs b)) m) (barred a b) ≡ lacks b (gives a m)
+lacks-after a b m =
+    as-sets (λ v. union (lacks (compose (changes (record-of v)) (needs (record-of v))) (marking-of v)) (barred (record-of v) (record-of v)))
+    (λ v. lacks (record-of v) (gives (record-of v) (marking-of v)))
+    (m .done ∷ m .included ∷ b .needin ∷ b .needex ∷ b .needout ∷ a .done ∷ a .inset ∷ a .inclear ∷ [])
+    (λ i. simp at-digit) (λ i. simp at-digit) refl
 
 -- what is lacking for a composition, with the steps that make it impossible
-abbrev lacking : Record → Record → Marking → ℕ
-lacking a b m = union (lacks (compose a b) m) (meet (b .needin) (minus (a .inclear) (a .inset)))
-
-lacks-compose : (a b : Record) (m : Marking) → lacking a b m ≡ union (lacks a m) (lacks b (gives a m))
+lacks-compose : (a b : Record) (m : Marking) → union (lacks (compose a b) m) (barred a b) ≡ union (lacks a m) (lacks b (gives a m))
 lacks-compose a b m =
-    as-sets (λ v. lacking (first-of v) (then-of v) (marking-of v)) (λ v. union (lacks (first-of v) (marking-of v)) (lacks (then-of v) (gives (first-of v) (marking-of v))))
-    (a .needin ∷ a .needex ∷ a .needout ∷ a .done ∷ a .inset ∷ a .inclear ∷ b .needin ∷ b .needex ∷ b .needout ∷ m .done ∷ m .included ∷ [])
-    (λ i. simp at-digit) (λ i. simp at-digit) refl
+    let rest : Record = compose (changes a) (needs b) in
+    ap (λ (x : ℕ). union x (barred a b)) (lack-sum (a .needin) (a .needex) (a .needout) (rest .needin) (rest .needex) (rest .needout) m)
+    ∙ sym (gained-twice (lacks a m) (lacks rest m) (barred a b))
+    ∙ ap (union (lacks a m)) (lacks-after a b m)
 
 -- a composition applies exactly when the first applies, and the second applies to what the first gives
 pub applies-compose : (a b : Record) (m : Marking) → applies (compose a b) m ≡ (applies a m && applies b (gives a m))
 applies-compose a b m =
     applies-lacks (compose a b) m
-    ∙ truths (a .never) (b .never) (empty (meet (b .needin) (minus (a .inclear) (a .inset)))) (empty (lacks (compose a b) m)) (empty (lacks a m)) (empty (lacks b (gives a m)))
-    (sym (empty-union (lacks (compose a b) m) (meet (b .needin) (minus (a .inclear) (a .inset)))) ∙ ap empty (lacks-compose a b m) ∙ empty-union (lacks a m) (lacks b (gives a m)))
+    ∙ truths (a .never) (b .never) (empty (barred a b)) (empty (lacks (compose a b) m)) (empty (lacks a m)) (empty (lacks b (gives a m)))
+    (sym (empty-union (lacks (compose a b) m) (barred a b)) ∙ ap empty (lacks-compose a b m) ∙ empty-union (lacks a m) (lacks b (gives a m)))
     ∙ sym (both (applies-lacks a m) (applies-lacks b (gives a m)))
   where
     both : {p q s t : Bool} → p ≡ q → s ≡ t → (p && s) ≡ (q && t)
@@ -110,11 +148,6 @@ changed-twice x c s d t =
     as-sets (λ v. union (minus (getD v 0 0) (union (getD v 1 0) (getD v 3 0))) (union (minus (getD v 2 0) (getD v 3 0)) (getD v 4 0)))
     (λ v. union (minus (union (minus (getD v 0 0) (getD v 1 0)) (getD v 2 0)) (getD v 3 0)) (getD v 4 0))
     (x ∷ c ∷ s ∷ d ∷ t ∷ []) (λ i. simp at-digit) (λ i. simp at-digit) refl
-
-gained-twice : (x d e : ℕ) → union x (union d e) ≡ union (union x d) e
-gained-twice x d e =
-    as-sets (λ v. union (getD v 0 0) (union (getD v 1 0) (getD v 2 0))) (λ v. union (union (getD v 0 0) (getD v 1 0)) (getD v 2 0))
-    (x ∷ d ∷ e ∷ []) (λ i. simp at-digit) (λ i. simp at-digit) refl
 
 -- a composition gives what the second gives after the first
 pub gives-compose : (a b : Record) (m : Marking) → gives (compose a b) m ≡ gives b (gives a m)
@@ -163,21 +196,21 @@ gives-again r m i =
 
 lacks-sorted : (r : Record) (m : Marking) → lacks (sorted r) m ≡ lacks r m
 lacks-sorted r m =
-    as-sets (λ v. lacks (sorted (first-of v)) (tidied-at v)) (λ v. lacks (first-of v) (tidied-at v))
-    (r .needin ∷ r .needex ∷ r .needout ∷ r .done ∷ r .inset ∷ r .inclear ∷ m .done ∷ m .included ∷ [])
+    as-sets (λ v. lacks (sorted (record-of v)) (marking-of v)) (λ v. lacks (record-of v) (marking-of v))
+    (m .done ∷ m .included ∷ r .needin ∷ r .needex ∷ r .needout ∷ [])
     (λ i. simp at-digit) (λ i. simp at-digit) refl
 
 -- where the record applies, what it would do again is left out
 done-sorted : (r : Record) (m : Marking) → lacks r m ≡ 0 → gives (sorted r) m .done ≡ gives r m .done
 done-sorted r m =
-    by-digits (λ v. lacks (first-of v) (tidied-at v)) (λ v. gives (sorted (first-of v)) (tidied-at v) .done) (λ v. gives (first-of v) (tidied-at v) .done)
-    (r .needin ∷ r .needex ∷ r .needout ∷ r .done ∷ r .inset ∷ r .inclear ∷ m .done ∷ m .included ∷ [])
+    by-digits (λ v. lacks (record-of v) (marking-of v)) (λ v. gives (sorted (record-of v)) (marking-of v) .done) (λ v. gives (record-of v) (marking-of v) .done)
+    (m .done ∷ m .included ∷ r .needin ∷ r .needex ∷ r .needout ∷ r .done ∷ [])
     (λ i. simp at-digit) (λ i. simp at-digit) (λ i. simp at-digit) refl
 
 included-sorted : (r : Record) (m : Marking) → lacks r m ≡ 0 → gives (sorted r) m .included ≡ gives r m .included
 included-sorted r m =
-    by-digits (λ v. lacks (first-of v) (tidied-at v)) (λ v. gives (sorted (first-of v)) (tidied-at v) .included) (λ v. gives (first-of v) (tidied-at v) .included)
-    (r .needin ∷ r .needex ∷ r .needout ∷ r .done ∷ r .inset ∷ r .inclear ∷ m .done ∷ m .included ∷ [])
+    by-digits (λ v. lacks (record-of v) (marking-of v)) (λ v. gives (sorted (record-of v)) (marking-of v) .included) (λ v. gives (record-of v) (marking-of v) .included)
+    (m .done ∷ m .included ∷ r .needin ∷ r .needex ∷ r .needout ∷ r .done ∷ r .inset ∷ r .inclear ∷ [])
     (λ i. simp at-digit) (λ i. simp at-digit) (λ i. simp at-digit) refl
 
 due-sorted : (x c s : ℕ) → union (minus x (minus c s)) s ≡ union (minus x c) s
@@ -264,3 +297,21 @@ acts-identity m = ap some (gives-identity m)
 pub acts-impossible : (m : Marking) → acts impossible m ≡ none
 unfolding acts
 acts-impossible m = ap (λ (p : Bool). cond p (some (gives impossible m)) none) (applies-never impossible m refl)
+
+-- ---- what it means that a record acts
+
+pub acts-some : (r : Record) (m x : Marking) → acts r m ≡ some x → (applies r m ≡ true) × (gives r m ≡ x)
+unfolding acts
+acts-some r m x e = go (applies r m) refl e
+  where
+    go : (p : Bool) → applies r m ≡ p → cond p (some (gives r m)) none ≡ some x → (applies r m ≡ true) × (gives r m ≡ x)
+    go true q f = (q, Option·some-injective (gives r m) x f)
+    go false q f = absurd (Option·none-ne-some x f)
+
+pub acts-none : (r : Record) (m : Marking) → acts r m ≡ none → applies r m ≡ false
+unfolding acts
+acts-none r m e = go (applies r m) refl e
+  where
+    go : (p : Bool) → applies r m ≡ p → cond p (some (gives r m)) none ≡ none → applies r m ≡ false
+    go true q f = absurd (Option·none-ne-some (gives r m) (sym f))
+    go false q f = q

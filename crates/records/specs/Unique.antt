@@ -4,7 +4,7 @@ use Prim.Native.Nat.{ℕ, _^_, _<_}
 use mathlib.Core.Path.{_≡_, refl, sym, ap, ap₂, _∙_, subst}
 use mathlib.Core.List.{List, [], _∷_}
 use mathlib.Core.Bool.{Bool, true, false, not, _&&_, cond, true≢false, false≢true}
-use mathlib.Core.Option.{Option, none, some, Option·none-ne-some, Option·some-injective}
+use mathlib.Core.Option.{Option, none, some}
 use lib.ListN.{getD}
 use lib.Bits.{bitXor, xor-self, and-zero-r, or-zero-r}
 use lib.Pow.{pow-pos}
@@ -15,7 +15,7 @@ use Rattle.rules.specs.declared.Marking.{Marking}
 use Rattle.rules.specs.Sound.{Inside}
 use Rattle.records.specs.declared.Record.{Record}
 use Rattle.records.specs.Records.{applies, gives, acts, impossible}
-use Rattle.records.specs.Laws.{lacks, applies-lacks, applies-none, applies-never}
+use Rattle.records.specs.Laws.{lacks, applies-lacks, applies-none, applies-never, acts-some}
 use Rattle.records.specs.WellFormed.{Bounded, WellFormed}
 use Rattle.records.specs.More.{at-digit, as-sets, by-digits}
 
@@ -154,11 +154,9 @@ Alike n a b = (m : Marking) → Inside n m → acts a m ≡ acts b m
 -- where one applies, so does the other, and gives the same
 alike-at : (a b : Record) (m : Marking) → acts a m ≡ acts b m → applies a m ≡ true → (applies b m ≡ true) × (gives a m ≡ gives b m)
 unfolding acts
-alike-at a b m e t = go (applies b m) refl (ap (λ (p : Bool). cond p (some (gives a m)) none) (sym t) ∙ e)
-  where
-    go : (p : Bool) → applies b m ≡ p → some (gives a m) ≡ cond (applies b m) (some (gives b m)) none → (applies b m ≡ true) × (gives a m ≡ gives b m)
-    go true q f = (q, Option·some-injective (gives a m) (gives b m) (f ∙ ap (λ (p : Bool). cond p (some (gives b m)) none) q))
-    go false q f = absurd (Option·none-ne-some (gives a m) (sym (f ∙ ap (λ (p : Bool). cond p (some (gives b m)) none) q)))
+alike-at a b m e t =
+    let found = acts-some b m (gives a m) (sym e ∙ ap (λ (p : Bool). cond p (some (gives a m)) none) t) in
+    (found .0, sym (found .1))
 
 module _ (n : ℕ) (a b : Record) (wa : WellFormed n a) (wb : WellFormed n b) (alike : Alike n a b) where
   -- where never is off, the other applies to a's own needs

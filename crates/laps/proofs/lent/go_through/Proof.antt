@@ -1,6 +1,6 @@
 -- `lent::go_through`: the leg over the whole journal is at each turn of the loop the leg from entry k on, in the marking at hand and with
 -- what is left so far. Assumes nothing.
-use Prim.Native.Nat.{ℕ, _+_, _*_, _-_, _≤_, _<_}
+use Prim.Native.Nat.{_+_, _*_, _-_, _≤_, _<_}
 use mathlib.Core.Path.{_≡_, refl, sym, ap, _∙_}
 use native.Mathlib.Omega.{arith}
 use lib.ListN.{length, drop}
@@ -52,8 +52,8 @@ remain-requires c κs =
 enum-known-o-2 : tie.Need-enum-known-o-2 Inv-loop μ-loop
 enum-known-o-2 c = search needs
 
-cast-t23 : tie.Need-cast-t23 Inv-loop μ-loop
-cast-t23 c = search needs
+cast-t22 : tie.Need-cast-t22 Inv-loop μ-loop
+cast-t22 c = search needs
 
 returns : tie.Need-returns Inv-loop μ-loop
 unfolding full
@@ -83,9 +83,6 @@ loop-again c =
     let kept : c .remain .result ≡ still (l .left) (l .at) (entryAt j (l .k) .step .0) = c .remain .ensures ∙ ap (λ (e : Entry). still (l .left) (l .at) (e .step .0)) (c .before .before .before .before .before .entry-at .ensures) in
     (search needs, search needs, search needs, l .inv .3 ∙ leg-moved g (l .at) (l .left) j (l .k) _ _ room told kept)
 
-cast-t25 : tie.Need-cast-t25 Inv-loop μ-loop
-cast-t25 c = search needs
-
 returns-2 : tie.Need-returns-2 Inv-loop μ-loop
 unfolding full
 returns-2 c =
@@ -108,10 +105,9 @@ go-through-spec =
     enum-known-o
     remain-requires
     enum-known-o-2
-    cast-t23
+    cast-t22
     returns
     add-k
     loop-less
     loop-again
-    cast-t25
     returns-2)

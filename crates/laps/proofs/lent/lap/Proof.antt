@@ -16,7 +16,7 @@ use Rattle.journal.specs.Journal.{lengthFits}
 use Rattle.journal.specs.Laws.{fits-threes, fits-most}
 use Rattle.laps.specs.Laps.{LapAnswer}
 use Rattle.laps.specs.Ways.{lines-graph, lines-length, lines-outside, lines-empty, lines-clear}
-use Rattle.laps.specs.Laws.{decision-right}
+use Rattle.laps.specs.Right.{decision-right}
 use Rattle.laps.proofs.lent.lap.Statement.{statement}
 use Rattle.laps.proofs.lent.lap.Tie as tie
 
