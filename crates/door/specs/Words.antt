@@ -1,5 +1,5 @@
 -- Answers as words: the number in the lowest byte, what goes with it above; and markings as three words of lent memory.
-use Prim.Native.Nat.{ℕ, _+_, _*_}
+use Prim.Native.Nat.{ℕ, _+_, _*_, _%_}
 use mathlib.Core.List.{List}
 use mathlib.Core.Bool.{cond}
 use lib.ListN.{getD, set}
@@ -11,6 +11,7 @@ use Rattle.rules.specs.declared.Ending.{Ending}
 use Rattle.rules.specs.declared.Marking.{Marking}
 use Rattle.rules.specs.declared.Entry.{Entry}
 use Rattle.rules.specs.First.{numberOf, stepOf}
+use Rattle.sheet.specs.declared.Written.{Written}
 use Rattle.journal.specs.declared.Ran.{Ran}
 use Rattle.journal.specs.declared.Walked.{Walked}
 use Rattle.tracker.specs.declared.Track.{Track}
@@ -53,6 +54,11 @@ unfoldable pub trackedWord : Tracked → ℕ
 trackedWord (Tracked.At t) = trackWord t
 trackedWord (Tracked.Refused r) = refusalWord r
 trackedWord (Tracked.Stays r t) = refusalWord r
+
+-- the length of a sheet in the index's place; no sheet is longer than 37,077 bytes
+unfoldable pub writtenLength : Written → ℕ
+writtenLength (Written.Length n) = 65536 * (n % 65536)
+writtenLength (Written.Refused r) = refusalWord r
 
 -- ---- lent memory
 

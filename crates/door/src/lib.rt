@@ -16,6 +16,7 @@ pub mod endless;
 pub mod folded;
 pub mod journals;
 pub mod records_words;
+pub mod sheets;
 pub mod tracks;
 pub mod words;
 

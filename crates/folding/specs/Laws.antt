@@ -21,6 +21,7 @@ use Rattle.rules.specs.declared.Refusal.the-variants.{Unknown, NotHeld, NotOnSt
 use Rattle.rules.specs.declared.Verdict.{Verdict}
 use Rattle.rules.specs.declared.Move.{Move}
 use Rattle.rules.specs.First.{first}
+use Rattle.rules.specs.Graph.{graphVerdict}
 use Rattle.rules.specs.Move.{rowOf, known, personHolds, stepHas, isIncluded, waitsFor, after, entryMove, entryLines, moveOf}
 use Rattle.rules.specs.Sound.{Sound, Inside}
 use Rattle.journal.specs.Journal.{entries, entryAt}
@@ -32,6 +33,7 @@ use Rattle.records.specs.WellFormed.{Bounded, WellFormed, compose-bounded, iden
 use Rattle.records.specs.Unique.{unique}
 use Rattle.records.specs.Theorems.{then-none, then-again, then-same, join-assoc, join-identity-left}
 use Rattle.folding.specs.Fold.{rowAt, stepRecord, possible, entryRecord, foldOf, movedTo, passes, afterAll, effect}
+use Rattle.folding.specs.More.{possible-serves}
 use Rattle.records.specs.More.{at-digit, as-sets}
 
 -- ---- one entry
@@ -91,15 +93,33 @@ acts-entry g e m =
     go true = ap₂ (λ (q : Bool) (x : Marking). cond q (some x) none) (applies-step (rowAt g e) (e .step .0) m) (gives-step (rowAt g e) (e .step .0) m)
     go false = acts-impossible m
 
--- an entry that names what there is not, and one whose role serves or does not
+-- a test that fails leaves none of both
+pub and-none : (p : Bool) → (p && false) ≡ false
+and-none true = refl
+and-none false = refl
+
+-- an entry that names what there is not
 pub record-unknown : (g : Graph) (e : Entry) → known g e ≡ false → entryRecord g e ≡ impossible
 unfolding entryRecord
 record-unknown g e k = simp k
 
-pub record-known : (g : Graph) (e : Entry) (p : Bool) → known g e ≡ true → (personHolds (rowAt g e) e && stepHas (rowAt g e) e) ≡ p
+-- in a graph with nothing against it, the roles alone say whether some marking could allow an entry
+pub record-serves : (g : Graph) (e : Entry) (p : Bool) → graphVerdict g ≡ Verdict.Clear → (personHolds (rowAt g e) e && stepHas (rowAt g e) e) ≡ p
     → entryRecord g e ≡ cond p (stepRecord (rowAt g e) (e .step .0)) impossible
 unfolding entryRecord
-record-known g e p k q = simp k (ap (λ (x : Bool). cond x (stepRecord (rowAt g e) (e .step .0)) impossible) q)
+record-serves g e p clear q = ap (λ (x : Bool). cond x (stepRecord (rowAt g e) (e .step .0)) impossible) (possible-serves g e clear ∙ q)
+
+-- an entry's record clears what is due of the steps that it does, and of no other
+pub entry-clears : (g : Graph) (e : Entry) → entryRecord g e .dueclear ≡ entryRecord g e .done
+unfolding entryRecord
+entry-clears g e = go (possible g e)
+  where
+    go : (p : Bool) → cond p (stepRecord (rowAt g e) (e .step .0)) impossible .dueclear ≡ cond p (stepRecord (rowAt g e) (e .step .0)) impossible .done
+    go true = refl
+    go false = refl
+
+pub compose-clears : (g : Graph) (r : Record) (e : Entry) → r .dueclear ≡ r .done → compose r (entryRecord g e) .dueclear ≡ compose r (entryRecord g e) .done
+compose-clears g r e p = ap₂ union p (entry-clears g e)
 
 -- on a graph as it should be, an entry's record keeps to its steps
 pub entry-bounded : (g : Graph) (e : Entry) → Sound g → Bounded (g .steps) (entryRecord g e)

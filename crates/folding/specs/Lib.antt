@@ -1,4 +1,5 @@
 pub mod Fold
+pub mod More
 pub mod Answers
 pub mod Laws
 pub mod Answered

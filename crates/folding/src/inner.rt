@@ -35,3 +35,21 @@ pub fn step_record(w: Row, s: u8) -> Record
         inclear: w.excludes,
     }
 }
+
+// The same record, said with one set less: a loop that carries it has one less to keep.
+pub fn cleared(r: Record) -> Record
+    requires { ⌜ r .dueclear ≡ r .done ⌝ }
+    ensures { λ t. ⌜ t ≡ r ⌝ }
+{
+    Record {
+        never: r.never,
+        needin: r.needin,
+        needex: r.needex,
+        needout: r.needout,
+        done: r.done,
+        dueset: r.dueset,
+        dueclear: r.done,
+        inset: r.inset,
+        inclear: r.inclear,
+    }
+}

@@ -8,6 +8,7 @@ ghost use Rattle.journal.specs.Journal.{entries};
 ghost use Rattle.folding.specs.Fold.{entryRecord, foldOf};
 ghost use Rattle.folding.specs.Answers.{theFold, theRestoring};
 use crate::inner::admits;
+use crate::inner::cleared;
 use crate::inner::step_record;
 use journal::Ran;
 use journal::inner::entry_at;
@@ -26,7 +27,8 @@ use rules::Marking;
 use rules::Refusal;
 use rules::Verdict;
 
-// What an entry needs and does, with nothing tidied.
+// What an entry needs and does, with nothing tidied, on a graph with nothing against it: there only a known person holds a role, and
+// only a known step has one, so that the counts need not be looked at.
 pub fn entry_record<'a>(
     steps: u8,
     people: u8,
@@ -39,19 +41,19 @@ pub fn entry_record<'a>(
     excludes: &'a [u64; 64],
     e: Entry,
 ) -> Record
-    requires { ⌜ (steps ≤ 64) × (people ≤ 16) × (roles ≤ 16) ⌝ }
+    requires { ⌜ graphVerdict (lentGraph steps people roles (now allows) (now holds) (now conditions) (now responses) (now includes) (now excludes)) ≡ Verdict.Clear ⌝ }
     ensures { λ r. ⌜ r ≡ entryRecord (lentGraph steps people roles (now (allows .entry)) (now (holds .entry)) (now (conditions .entry)) (now (responses .entry)) (now (includes .entry)) (now (excludes .entry))) e ⌝ }
 {
     let p = e.person;
     let s = e.step.0;
     let role = e.role;
-    if people <= p {
+    if 16 <= p {
         return NEVER;
     }
-    if steps <= s {
+    if 64 <= s {
         return NEVER;
     }
-    if roles <= role {
+    if 16 <= role {
         return NEVER;
     }
     let w = rules::lent::row_at(
@@ -108,7 +110,7 @@ pub fn fold_entries<'a>(
         if e.never {
             return NEVER;
         }
-        r = composed(r, e);
+        r = cleared(composed(r, e));
         if r.never {
             return NEVER;
         }

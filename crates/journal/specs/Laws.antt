@@ -1,7 +1,7 @@
 -- The laws of journals.
 -- Assumes nothing.
 use Prim.Native.Nat.{ℕ, zero, suc, _+_, _*_, _%_, _≤_, _<_}
-use mathlib.Core.Path.{_≡_, refl, sym, ap, ap₂, _∙_}
+use mathlib.Core.Path.{_≡_, refl, sym, ap, _∙_}
 use mathlib.Core.List.{List, [], _∷_, _++_}
 use mathlib.Core.Bool.{Bool, true, false, not, cond}
 use native.Mathlib.Omega.{arith}
@@ -23,6 +23,7 @@ use Rattle.rules.specs.Move.{entryMove, markingFits, markingLines, noMarking}
 use Rattle.rules.specs.Laws.{first-clear, first-refused}
 use Rattle.journal.specs.declared.Ran.{Ran}
 use Rattle.journal.specs.Journal.{entryOf, entries, entryAt, lengthFits}
+use Rattle.journal.specs.Allowed.{isAllowed, refused-moved}
 use Rattle.journal.specs.Run.{goOn, runOn, lengthLines, runOf, theRun}
 
 -- ---- lengths that fit
@@ -113,6 +114,14 @@ pub run-refused : (g : Graph) (m back : Marking) (r : Refusal) (j : List ℕ) (k
 unfolding runOn goOn
 run-refused g m back r j k h e =
     ap (runOn g m k) (entries-from j k h) ∙ ap (λ (o : Move). goOn k m o (λ n. runOn g n (k + 1) (entries (drop (3 * k + 3) j)))) e
+
+-- whatever the refusal, which is the move's to say
+pub run-stopped : (g : Graph) (m : Marking) (j : List ℕ) (k : ℕ) → 3 * k + 3 ≤ length j → isAllowed g m (entryAt j k) ≡ false
+    → runOn g m k (entries (drop (3 * k) j)) ≡ goOn k m (entryMove g m (entryAt j k)) (λ next. Ran.Ended next k)
+unfolding goOn
+run-stopped g m j k h out =
+    let f = refused-moved g m (entryAt j k) out in
+    run-refused g m (f .1) (f .0) j k h (f .2) ∙ ap (λ (o : Move). goOn k m o (λ next. Ran.Ended next k)) (sym (f .2))
 
 -- it is: the run goes on behind it
 pub run-moved : (g : Graph) (m next : Marking) (j : List ℕ) (k : ℕ) → 3 * k + 3 ≤ length j → entryMove g m (entryAt j k) ≡ Move.Moved next

@@ -3,5 +3,7 @@ pub mod Run
 pub mod Walk
 pub mod Laws
 pub mod More
+pub mod Allowed
+pub mod Singles
 pub mod Runs
 pub mod Walks

@@ -7,7 +7,7 @@ use Rattle.rules.specs.declared.Verdict.{Verdict}
 use Rattle.rules.specs.First.{first, numberOf}
 use Rattle.journal.specs.declared.Walked.{Walked}
 use Rattle.journal.specs.declared.Stride.{Stride}
-use Rattle.journal.specs.Journal.{entries}
+use Rattle.journal.specs.Journal.{entryOf, entries}
 use Rattle.journal.specs.Run.{lengthLines}
 
 -- nothing is handed out, and the walk stays put
@@ -28,9 +28,22 @@ strideOf k (Verdict.Refused r) s = stays k (Walked.Refused r)
 unfoldable pub strideAt : List ℕ → ℕ → Stride
 strideAt j k = strideOf k (first (lengthLines j)) (handOut k (drop k (entries j)))
 
--- ---- document 01's number of each case; 0 where an entry is handed out, or the end is
+-- ---- document 01's number and values of each case
 
+-- 7, or 0 where the walk says what it finds
 unfoldable pub numberOfWalked : Walked → ℕ
 numberOfWalked (Walked.At e) = 0
 numberOfWalked Walked.End = 0
 numberOfWalked (Walked.Refused r) = numberOf r
+
+-- how many entries are handed out: one, or none
+unfoldable pub countOfWalked : Walked → ℕ
+countOfWalked (Walked.At e) = 1
+countOfWalked Walked.End = 0
+countOfWalked (Walked.Refused r) = 0
+
+-- the entry; zeros where there is none
+unfoldable pub entryOfWalked : Walked → Entry
+entryOfWalked (Walked.At e) = e
+entryOfWalked Walked.End = entryOf 0 0 0
+entryOfWalked (Walked.Refused r) = entryOf 0 0 0

@@ -23,7 +23,7 @@ use Rattle.journal.specs.Journal.{entryOf, entries, entryAt, lengthFits}
 use Rattle.journal.specs.Run.{theRun}
 use Rattle.journal.specs.Walk.{stays, handOut, strideOf, strideAt}
 use Rattle.journal.specs.Laws.{fits-threes, entries-length, entries-at, entries-from, entries-drop}
-use Rattle.journal.specs.Runs.{Ready, Passes, StopsAt, ended-passes, stopped-first}
+use Rattle.journal.specs.Runs.{Passes, ended-passes, stopped-first}
 
 -- ---- a walk, by what is found of the journal and the place
 

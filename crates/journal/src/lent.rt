@@ -2,14 +2,18 @@
 ghost use mathlib.Core.Path.{_≡_};
 ghost use Prim.Native.Nat.{ℕ, _%_, _≤_};
 ghost use lib.ListN.{length};
-ghost use Rattle.rules.specs.Graph.{lentGraph};
+ghost use Rattle.rules.specs.declared.Verdict.{Verdict};
+ghost use Rattle.rules.specs.Graph.{lentGraph, graphVerdict};
 ghost use Rattle.journal.specs.Journal.{entries};
 ghost use Rattle.journal.specs.Run.{runOn, theRun};
 use crate::Ran;
 use crate::inner::entry_at;
 use crate::inner::length_fits;
+use crate::quick::SINGLES;
+use crate::quick::allowed;
+use crate::quick::refused;
+use crate::quick::taken;
 use rules::Marking;
-use rules::Move;
 use rules::Refusal;
 use rules::Verdict;
 
@@ -19,7 +23,7 @@ const NONE: Marking = Marking {
     included: 0,
 };
 
-// The entries, on a graph and a journal that are as they should be. Refusals 11 to 15.
+// The entries, on a graph and a journal with nothing against them. Refusals 11 to 15.
 pub fn run_entries<'a>(
     steps: u8,
     people: u8,
@@ -33,14 +37,17 @@ pub fn run_entries<'a>(
     m: Marking,
     j: &[u8],
 ) -> Ran
-    requires { ⌜ (steps ≤ 64) × (people ≤ 16) × (roles ≤ 16) × (length (now j) % 3 ≡ 0) × (length (now j) ≤ 65535) ⌝ }
+    requires { ⌜ (graphVerdict (lentGraph steps people roles (now allows) (now holds) (now conditions) (now responses) (now includes) (now excludes)) ≡ Verdict.Clear) × (length (now j) % 3 ≡ 0) × (length (now j) ≤ 65535) ⌝ }
     ensures { λ r. ⌜ r ≡ runOn (lentGraph steps people roles (now (allows .entry)) (now (holds .entry)) (now (conditions .entry)) (now (responses .entry)) (now (includes .entry)) (now (excludes .entry))) m 0 (entries (now (j .entry))) ⌝ }
 {
+    let singles = SINGLES;
     let count = j.len() / 3;
     let mut at = m;
     let mut k = 0;
     while k < count {
-        let o = rules::lent::enter(
+        let e = entry_at(j, k);
+        if !allowed(
+            &singles,
             steps,
             people,
             roles,
@@ -51,17 +58,37 @@ pub fn run_entries<'a>(
             includes,
             excludes,
             at,
-            entry_at(j, k),
-        );
-        match o {
-            Move::Moved(next) => {
-                at = next;
-            }
-            Move::Refused(r, _) => {
-                let index = k as u16;
-                return Ran::Stopped(index, r, at);
-            }
+            e,
+        ) {
+            let index = k as u16;
+            return refused(
+                steps,
+                people,
+                roles,
+                allows,
+                holds,
+                conditions,
+                responses,
+                includes,
+                excludes,
+                at,
+                e,
+                index,
+            );
         }
+        at = taken(
+            steps,
+            people,
+            roles,
+            allows,
+            holds,
+            conditions,
+            responses,
+            includes,
+            excludes,
+            at,
+            e,
+        );
         k += 1;
     }
     let number = count as u16;

@@ -9,6 +9,7 @@ use rules::Refusal;
 
 pub mod inner;
 pub mod lent;
+pub mod quick;
 
 // All entries pass, with the end marking and their number; or the first that is not allowed, with its index, its refusal and
 // the marking before it (below 11: zeros).

@@ -7,7 +7,6 @@ use Rattle.rules.specs.declared.Entry.{Entry}
 use Rattle.rules.specs.declared.Refusal.{Refusal}
 use Rattle.rules.specs.declared.Move.{Move}
 use Rattle.rules.specs.Move.{theMove}
-use Rattle.kept.specs.declared.Kept.{Kept}
 use Rattle.kept.specs.Keep.{keptBy, theKept}
 
 -- the same answers as the move

@@ -1,4 +1,4 @@
-// The kept marking: the cabinet keeps one marking, and an allowed entry alters it where it lies.
+// The kept marking: the cabinet keeps one marking, and an allowed entry alters it where it lies. `lent::keep` takes it by `&mut`.
 ghost use mathlib.Core.Path.{_≡_};
 ghost use Rattle.kept.specs.Keep.{theKept};
 use rules::Entry;

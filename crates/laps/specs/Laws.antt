@@ -4,7 +4,7 @@ use Prim.Native.Nat.{ℕ, zero, suc, _≤_, _<_}
 use mathlib.Core.Path.{_≡_, refl, sym, ap, _∙_}
 use mathlib.Core.Logic.{_⊎_, inl, inr}
 use mathlib.Core.List.{List}
-use mathlib.Core.Bool.{Bool, cond, true≢false}
+use mathlib.Core.Bool.{Bool, true, cond, true≢false}
 use native.Mathlib.Nat.{le-refl}
 use native.Mathlib.Omega.{arith}
 use native.Mathlib.Decide.{decLt}
@@ -17,6 +17,7 @@ use Rattle.rules.specs.declared.Verdict.{Verdict}
 use Rattle.rules.specs.declared.Move.{Move}
 use Rattle.rules.specs.First.{first, numberOf}
 use Rattle.rules.specs.Move.{entryLines, moveOf, entryMove, noMarking}
+use Rattle.rules.specs.Laws.{ascends}
 use Rattle.journal.specs.Journal.{entries}
 use Rattle.journal.specs.More.{numbersFrom, first-from}
 use Rattle.laps.specs.declared.Lapped.{Lapped}
@@ -98,6 +99,11 @@ module _ (g : Graph) (m : Marking) (stem lap : List ℕ) where
 
   abbrev e : ℕ → Entry
   e i = runOf S L i
+
+  -- the table goes up, so that the number given is the lowest that holds (`first-lowest` of the rules)
+  pub lines-ascend : ascends 0 (lapLines g m stem lap) ≡ true
+  unfolding ascends numberOf
+  lines-ascend = refl
 
   -- what is computed is an answer, whatever is handed in
   pub the-lap-right : LapAnswer g m stem lap (theLap g m stem lap)

@@ -10,7 +10,7 @@ use Rattle.sets.specs.Laws.{and-right, union-lt, minus-lt}
 use Rattle.rules.specs.declared.Marking.{Marking}
 use Rattle.rules.specs.declared.Refusal.the-variants.{Counts, Outside, IllFormed, NotApplied}
 use Rattle.rules.specs.declared.Verdict.{Verdict}
-use Rattle.rules.specs.First.{first, number}
+use Rattle.rules.specs.First.{first, number, numberOf}
 use Rattle.rules.specs.Graph.{within1to}
 use Rattle.rules.specs.Move.{markingFits}
 use Rattle.rules.specs.Sound.{Inside}
@@ -19,7 +19,7 @@ use Rattle.records.specs.declared.Recorded.{Recorded}
 use Rattle.records.specs.declared.Applied.{Applied}
 use Rattle.records.specs.Records.{applies, gives, wellFormed, join}
 use Rattle.records.specs.WellFormed.{Bounded}
-use Rattle.records.specs.Answers.{recordedOf, theJoin, appliedOf, theApplication, numberOfRecorded, numberOfApplied}
+use Rattle.records.specs.Answers.{recordedOf, theJoin, appliedOf, appliedOn, theApplication, numberOfRecorded, numberOfApplied}
 
 -- there are at most 64 steps
 pub counts-most : (n : ℕ) → within1to n 64 ≡ true → n ≤ 64
@@ -29,6 +29,15 @@ counts-most n e = leb-true n 64 (and-right (leb 1 n) (leb n 64) e)
 pub joins : (n : ℕ) (a b : Record) → within1to n 64 ≡ true → wellFormed n a ≡ true → wellFormed n b ≡ true → theJoin n a b ≡ Recorded.Made (join a b)
 unfolding theJoin recordedOf first
 joins n a b c p q = simp (c, p, q)
+
+-- where counts, marking and record are as they should be, only 16 is left
+pub applies-on : (n : ℕ) (r : Record) (m : Marking) → within1to n 64 ≡ true → markingFits n m ≡ true → wellFormed n r ≡ true → theApplication n r m ≡ appliedOn r m
+unfolding theApplication appliedOf first numberOf
+applies-on n r m c f g = simp (c, f, g) (go (applies r m))
+  where
+    go : (p : Bool) → appliedOf (cond (not p) (Verdict.Refused NotApplied) Verdict.Clear) m (gives r m) ≡ cond p (Applied.Gives (gives r m)) (Applied.Refused NotApplied m)
+    go true = refl
+    go false = refl
 
 -- what a record that was applied shows
 pub record Applying (n : ℕ) (r : Record) (m x : Marking) : Type 0 where

@@ -42,6 +42,10 @@ unfoldable pub appliedOf : Verdict → Marking → Marking → Applied
 appliedOf Verdict.Clear before next = Applied.Gives next
 appliedOf (Verdict.Refused q) before next = Applied.Refused q (cond (leb 11 (numberOf q)) before noMarking)
 
+-- a record that is well-formed at a marking that fits: 16
+abbrev pub appliedOn : Record → Marking → Applied
+appliedOn r m = cond (applies r m) (Applied.Gives (gives r m)) (Applied.Refused NotApplied m)
+
 unfoldable pub theApplication : ℕ → Record → Marking → Applied
 theApplication n r m = appliedOf (first (applyLines n r m)) m (gives r m)
 

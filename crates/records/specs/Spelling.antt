@@ -192,10 +192,17 @@ reads-back n r c w =
     let same : recordAt (recordBytes r) ≡ r = read-written r (bounded-64 n r (counts-most n c) (well-formed n r w .bounded)) in
     simp (c, same, eq-eqb (length (recordBytes r)) 65 (length-record r), le-leb (getD (recordBytes r) 0 0) 1 (flag-low r), w)
 
--- a record that was read is well-formed, and its bytes are those it was read from
-pub reads-well : (n : ℕ) (s : List ℕ) (r : Record) → theReading n s ≡ Recorded.Made r → Bytes s → (wellFormed n r ≡ true) × (recordBytes r ≡ s)
+-- what bytes that were read show
+pub record Reading (n : ℕ) (s : List ℕ) (r : Record) : Type 0 where
+  pub counts : within1to n 64 ≡ true
+  pub size : length s ≡ 65
+  pub low : getD s 0 0 ≤ 1
+  pub good : wellFormed n r ≡ true
+  pub spells : recordAt s ≡ r
+
+pub reading : (n : ℕ) (s : List ℕ) (r : Record) → theReading n s ≡ Recorded.Made r → Reading n s r
 unfolding theReading recordedOf first
-reads-well n s r e h = go (within1to n 64) refl (readable n s) refl
+reading n s r e = go (within1to n 64) refl (readable n s) refl
   where
     size : Bool
     size = eqb (length s) 65
@@ -203,12 +210,20 @@ reads-well n s r e h = go (within1to n 64) refl (readable n s) refl
     low : Bool
     low = leb (getD s 0 0) 1
 
-    go : (c : Bool) → within1to n 64 ≡ c → (g : Bool) → readable n s ≡ g → (wellFormed n r ≡ true) × (recordBytes r ≡ s)
+    go : (c : Bool) → within1to n 64 ≡ c → (g : Bool) → readable n s ≡ g → Reading n s r
     go true p true q =
         let same : recordAt s ≡ r = cc in
-        let both : (size && low) ≡ true = and-left (size && low) (wellFormed n (recordAt s)) q in (
-          ap (wellFormed n) (sym same) ∙ and-right (size && low) (wellFormed n (recordAt s)) q,
-          ap recordBytes (sym same) ∙ written-read s h (eqb-true (length s) 65 (and-left size low both)) (leb-true (getD s 0 0) 1 (and-right size low both)),
-        )
+        let both : (size && low) ≡ true = and-left (size && low) (wellFormed n (recordAt s)) q in
+        record {
+          counts = p;
+          size = eqb-true (length s) 65 (and-left size low both);
+          low = leb-true (getD s 0 0) 1 (and-right size low both);
+          good = ap (wellFormed n) (sym same) ∙ and-right (size && low) (wellFormed n (recordAt s)) q;
+          spells = same;
+        }
     go true p false q = absurd (let z : _≡_ {A = ℕ} 0 1 = cc in let w : ⊥ = omega arith in w)
     go false p g q = absurd (let z : _≡_ {A = ℕ} 0 1 = cc in let w : ⊥ = omega arith in w)
+
+-- the bytes of a record that was read are those it was read from
+pub writes-back : (n : ℕ) (s : List ℕ) (r : Record) → theReading n s ≡ Recorded.Made r → Bytes s → recordBytes r ≡ s
+writes-back n s r e h = let k : Reading n s r = reading n s r e in ap recordBytes (sym (k .spells)) ∙ written-read s h (k .size) (k .low)

@@ -2,9 +2,12 @@
 ghost use mathlib.Core.Path.{_≡_};
 ghost use Prim.Native.Nat.{ℕ, _≤_};
 ghost use Rattle.rules.specs.Graph.{within1to};
+ghost use Rattle.records.specs.Answers.{appliedOn};
 ghost use Rattle.records.specs.Records.{applies, gives, wellFormed, compose, sorted, tidy, join};
+use crate::Applied;
 use crate::Record;
 use rules::Marking;
+use rules::Refusal;
 
 pub const NONE: Marking = Marking {
     done: 0,
@@ -74,6 +77,16 @@ pub fn given(r: Record, m: Marking) -> Marking
         due: (m.due ^ (m.due & r.dueclear)) | r.dueset,
         included: (m.included ^ (m.included & r.inclear)) | r.inset,
     }
+}
+
+// A well-formed record at a marking that fits. Refusal 16.
+pub fn applied(r: Record, m: Marking) -> Applied
+    ensures { λ x. ⌜ x ≡ appliedOn r m ⌝ }
+{
+    if !suits(r, m) {
+        return Applied::Refused(Refusal::NotApplied, m);
+    }
+    Applied::Gives(given(r, m))
 }
 
 // What a and then b need and do, with nothing tidied.

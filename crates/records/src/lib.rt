@@ -75,10 +75,7 @@ impl Record {
         if !inner::well_formed(n, self) {
             return Applied::Refused(Refusal::IllFormed, inner::NONE);
         }
-        if !inner::suits(self, m) {
-            return Applied::Refused(Refusal::NotApplied, m);
-        }
-        Applied::Gives(inner::given(self, m))
+        inner::applied(self, m)
     }
 }
 

@@ -8,19 +8,18 @@ use lib.ListN.{length, drop}
 use borrow.Author.Needs.{needs}
 use Rattle.rules.specs.declared.Graph.{Graph}
 use Rattle.rules.specs.Graph.{lentGraph}
-use Rattle.rules.specs.Laws.{Counted, clear-counts}
 use Rattle.rules.specs.Sound.{Sound, clear-sound}
 use Rattle.journal.specs.Journal.{entries, entryAt}
 use Rattle.records.specs.declared.Record.{Record}
 use Rattle.records.specs.Records.{identity, compose}
 use Rattle.folding.specs.Fold.{entryRecord}
-use Rattle.folding.specs.Laws.{compound, compound-more, fold-barred, fold-stuck, fold-ended}
+use Rattle.folding.specs.Laws.{compound, compound-more, compose-clears, fold-barred, fold-stuck, fold-ended}
 use Rattle.folding.proofs.lent.fold_entries.Statement.{statement}
 use Rattle.folding.proofs.lent.fold_entries.Tie as tie
 
 abbrev Inv-loop : tie.InvT-loop
 Inv-loop steps people roles allows holds conditions responses includes excludes j count r₀ k₀ r k =
-    (count * 3 ≡ length j) × (length j < 2 ^ 64) × (k ≤ count)
+    (count * 3 ≡ length j) × (length j < 2 ^ 64) × (k ≤ count) × (r .dueclear ≡ r .done)
     × (compound (lentGraph steps people roles allows holds conditions responses includes excludes) identity (entries j)
     ≡ compound (lentGraph steps people roles allows holds conditions responses includes excludes) r (entries (drop (3 * k) j)))
 
@@ -28,17 +27,13 @@ abbrev μ-loop : tie.MeasureT-loop
 μ-loop steps people roles allows holds conditions responses includes excludes j count r₀ k₀ r k = count - k
 
 loop-holds : tie.Need-loop-holds Inv-loop μ-loop
-loop-holds c = (search needs, search needs, search needs, refl)
+loop-holds c = (search needs, search needs, search needs, refl, refl)
 
 entry-at-requires : tie.Need-entry-at-requires Inv-loop μ-loop
 entry-at-requires c κs = search needs
 
 entry-record-requires : tie.Need-entry-record-requires Inv-loop μ-loop
-entry-record-requires c κs =
-    let a = c .before .before .before .before .args in
-    let g : Graph = lentGraph (a .steps) (a .people) (a .roles) (a .allows .now) (a .holds .now) (a .conditions .now) (a .responses .now) (a .includes .now) (a .excludes .now) in
-    let b : Counted (a .steps) (a .people) (a .roles) = clear-counts g (c .before .before .before .before .pre .0) in
-    (b .steps-most, b .people-most, b .roles-most)
+entry-record-requires c κs = c .before .before .before .before .pre .0
 
 returns : tie.Need-returns Inv-loop μ-loop
 returns c =
@@ -49,21 +44,29 @@ returns c =
     let sound : Sound g = clear-sound g (c .before .before .before .before .before .before .pre .0) in
     let room : 3 * (l .k) + 3 ≤ length j = omega arith in
     let on : entryRecord g (entryAt j (l .k)) .never ≡ true = ap (λ (q : Record). q .never) (sym (c .before .entry-record .ensures ∙ ap (entryRecord g) (c .before .before .entry-at .ensures))) ∙ c .if1 .taken in
-    sym (fold-barred g j (l .k) (l .r) sound (l .inv .3) room on)
+    sym (fold-barred g j (l .k) (l .r) sound (l .inv .4) room on)
 
 composed-requires : tie.Need-composed-requires Inv-loop μ-loop
 composed-requires c κs = search needs
 
+cleared-requires : tie.Need-cleared-requires Inv-loop μ-loop
+cleared-requires c κs =
+    let a = c .before .before .before .before .before .before .before .args in
+    let g : Graph = lentGraph (a .steps) (a .people) (a .roles) (a .allows .now) (a .holds .now) (a .conditions .now) (a .responses .now) (a .includes .now) (a .excludes .now) in
+    let l = c .before .before .before .before .before .loop in
+    let next : c .composed .result ≡ compose (l .r) (entryRecord g (c .before .before .before .entry-at .result)) = c .composed .ensures ∙ ap (compose (l .r)) (c .before .before .entry-record .ensures) in
+    ap (λ (q : Record). q .dueclear) next ∙ compose-clears g (l .r) (c .before .before .before .entry-at .result) (l .inv .3) ∙ ap (λ (q : Record). q .done) (sym next)
+
 returns-2 : tie.Need-returns-2 Inv-loop μ-loop
 returns-2 c =
-    let a = c .before .before .before .before .before .before .before .before .args in
+    let a = c .before .before .before .before .before .before .before .before .before .args in
     let g : Graph = lentGraph (a .steps) (a .people) (a .roles) (a .allows .now) (a .holds .now) (a .conditions .now) (a .responses .now) (a .includes .now) (a .excludes .now) in
-    let l = c .before .before .before .before .before .before .loop in
+    let l = c .before .before .before .before .before .before .before .loop in
     let j = a .j .now in
-    let sound : Sound g = clear-sound g (c .before .before .before .before .before .before .before .before .pre .0) in
+    let sound : Sound g = clear-sound g (c .before .before .before .before .before .before .before .before .before .pre .0) in
     let room : 3 * (l .k) + 3 ≤ length j = omega arith in
-    let on : compose (l .r) (entryRecord g (entryAt j (l .k))) .never ≡ true = ap (λ (q : Record). q .never) (sym (c .before .composed .ensures ∙ ap (compose (l .r)) (c .before .before .before .entry-record .ensures ∙ ap (entryRecord g) (c .before .before .before .before .entry-at .ensures)))) ∙ c .if2 .taken in
-    sym (fold-stuck g j (l .k) (l .r) sound (l .inv .3) room on)
+    let on : compose (l .r) (entryRecord g (entryAt j (l .k))) .never ≡ true = ap (λ (q : Record). q .never) (sym (c .before .cleared .ensures ∙ c .before .before .composed .ensures ∙ ap (compose (l .r)) (c .before .before .before .before .entry-record .ensures ∙ ap (entryRecord g) (c .before .before .before .before .before .entry-at .ensures)))) ∙ c .if2 .taken in
+    sym (fold-stuck g j (l .k) (l .r) sound (l .inv .4) room on)
 
 add-k : tie.Need-add-k Inv-loop μ-loop
 add-k c = search needs
@@ -73,14 +76,15 @@ loop-less c = search needs
 
 loop-again : tie.Need-loop-again Inv-loop μ-loop
 loop-again c =
-    let a = c .before .before .before .before .before .before .before .before .args in
+    let a = c .before .before .before .before .before .before .before .before .before .args in
     let g : Graph = lentGraph (a .steps) (a .people) (a .roles) (a .allows .now) (a .holds .now) (a .conditions .now) (a .responses .now) (a .includes .now) (a .excludes .now) in
-    let l = c .before .before .before .before .before .before .loop in
+    let l = c .before .before .before .before .before .before .before .loop in
     let j = a .j .now in
-    let sound : Sound g = clear-sound g (c .before .before .before .before .before .before .before .before .pre .0) in
+    let sound : Sound g = clear-sound g (c .before .before .before .before .before .before .before .before .before .pre .0) in
     let room : 3 * (l .k) + 3 ≤ length j = omega arith in
-    let next : c .before .composed .result ≡ compose (l .r) (entryRecord g (entryAt j (l .k))) = c .before .composed .ensures ∙ ap (compose (l .r)) (c .before .before .before .entry-record .ensures ∙ ap (entryRecord g) (c .before .before .before .before .entry-at .ensures)) in
-    (search needs, search needs, search needs, l .inv .3 ∙ compound-more g (l .r) j (l .k) room ∙ ap (λ (q : Record). compound g q (entries (drop (3 * (l .k + 1)) j))) (sym next))
+    let next : c .before .cleared .result ≡ compose (l .r) (entryRecord g (entryAt j (l .k))) = c .before .cleared .ensures ∙ c .before .before .composed .ensures ∙ ap (compose (l .r)) (c .before .before .before .before .entry-record .ensures ∙ ap (entryRecord g) (c .before .before .before .before .before .entry-at .ensures)) in
+    let clears : c .before .cleared .result .dueclear ≡ c .before .cleared .result .done = ap (λ (q : Record). q .dueclear) next ∙ compose-clears g (l .r) (entryAt j (l .k)) (l .inv .3) ∙ ap (λ (q : Record). q .done) (sym next) in
+    (search needs, search needs, search needs, clears, l .inv .4 ∙ compound-more g (l .r) j (l .k) room ∙ ap (λ (q : Record). compound g q (entries (drop (3 * (l .k + 1)) j))) (sym next))
 
 tidied-requires : tie.Need-tidied-requires Inv-loop μ-loop
 tidied-requires c κs = search needs
@@ -93,7 +97,7 @@ returns-3 c =
     let j = a .j .now in
     let sound : Sound g = clear-sound g (c .before .before .before .before .pre .0) in
     let past : length j ≤ 3 * (l .k) = omega arith in
-    c .tidied .ensures ∙ sym (fold-ended g j (l .k) (l .r) sound (l .inv .3) past)
+    c .tidied .ensures ∙ sym (fold-ended g j (l .k) (l .r) sound (l .inv .4) past)
 
 pub fold-entries-spec : {M : Type 1} → statement M
 fold-entries-spec =
@@ -106,6 +110,7 @@ fold-entries-spec =
     entry-record-requires
     returns
     composed-requires
+    cleared-requires
     returns-2
     add-k
     loop-less

@@ -102,8 +102,7 @@ run-entries-requires c κs =
     let g : Graph = lentGraph (a .steps) (a .people) (a .roles) (a .allows .now) (a .holds .now) (a .conditions .now) (a .responses .now) (a .includes .now) (a .excludes .now) in
     let clear : graphVerdict g ≡ Verdict.Clear = sym (c .before .before .before .before .before .before .before .before .before .before .before .check .ensures) ∙ c .before .before .before .before .before .before .before .before .before .enum-told .given .1 in
     let long : lengthFits (a .j .now) ≡ true = sym (c .before .before .before .before .before .before .before .before .length-fits .ensures) ∙ not-false _ (c .before .before .before .before .before .before .before .if1 .left) in
-    let b : Counted (a .steps) (a .people) (a .roles) = clear-counts g clear in
-    (b .steps-most, b .people-most, b .roles-most, fits-threes (a .j .now) long, fits-most (a .j .now) long)
+    (clear, fits-threes (a .j .now) long, fits-most (a .j .now) long)
 
 returns-6 : tie.Need-returns-6
 returns-6 c =

@@ -8,7 +8,6 @@ use borrow.Author.Needs.{needs}
 use borrow.Author.Tests.{not-true, not-false}
 use Rattle.rules.specs.declared.Entry.{Entry}
 use Rattle.journal.specs.declared.Walked.{Walked}
-use Rattle.journal.specs.declared.Stride.{Stride}
 use Rattle.journal.specs.Journal.{lengthFits}
 use Rattle.journal.specs.Laws.{fits-threes}
 use Rattle.journal.specs.Walks.{walk-length, walk-entry, walk-end}

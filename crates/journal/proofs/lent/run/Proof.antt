@@ -65,9 +65,8 @@ run-entries-requires c κs =
     let g : Graph = lentGraph (a .steps) (a .people) (a .roles) (a .allows .now) (a .holds .now) (a .conditions .now) (a .responses .now) (a .includes .now) (a .excludes .now) in
     let j = a .j .now in
     let clear : graphVerdict g ≡ Verdict.Clear = sym (c .before .before .before .before .before .before .check .ensures) ∙ c .before .before .before .before .enum-told .given .1 in
-    let b : Counted (a .steps) (a .people) (a .roles) = clear-counts g clear in
     let long : lengthFits j ≡ true = sym (c .before .before .before .length-fits .ensures) ∙ not-false _ (c .before .before .if1 .left) in
-    (b .steps-most, b .people-most, b .roles-most, fits-threes j long, fits-most j long)
+    (clear, fits-threes j long, fits-most j long)
 
 returns-4 : tie.Need-returns-4
 returns-4 c =

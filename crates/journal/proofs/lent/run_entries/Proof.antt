@@ -1,29 +1,35 @@
 -- `lent::run_entries`: the run of the whole journal is at each turn of the loop the run from entry k on, in the marking at hand. Assumes nothing.
-use Prim.Native.Nat.{ℕ, _+_, _*_, _-_, _/_, _≤_}
+use Prim.Native.Nat.{_+_, _*_, _-_, _/_, _≤_}
 use mathlib.Core.Path.{_≡_, sym, _∙_, refl, ap}
+use mathlib.Core.Bool.{true, false}
 use native.Mathlib.Omega.{arith}
 use lib.ListN.{length, drop}
 use borrow.Author.Needs.{needs}
+use borrow.Author.Tests.{not-true, not-false}
 use Rattle.rules.specs.declared.Graph.{Graph}
+use Rattle.rules.specs.declared.Marking.{Marking}
 use Rattle.rules.specs.declared.Entry.{Entry}
 use Rattle.rules.specs.declared.Move.{Move}
 use Rattle.rules.specs.Graph.{lentGraph}
 use Rattle.rules.specs.Move.{entryMove}
+use Rattle.rules.specs.Laws.{Counted, clear-counts}
 use Rattle.journal.specs.declared.Ran.{Ran}
 use Rattle.journal.specs.Journal.{entries, entryAt}
-use Rattle.journal.specs.Run.{runOn}
-use Rattle.journal.specs.Laws.{run-moved, run-refused, run-ended}
+use Rattle.journal.specs.Run.{runOn, goOn}
+use Rattle.journal.specs.Allowed.{Named, isAllowed, allowed-named, allowed-moved}
+use Rattle.journal.specs.Singles.{singles-all}
+use Rattle.journal.specs.Laws.{run-moved, run-stopped, run-ended}
 use Rattle.journal.proofs.lent.run_entries.Statement.{statement}
 use Rattle.journal.proofs.lent.run_entries.Tie as tie
 
 abbrev Inv-loop : tie.InvT-loop
-Inv-loop steps people roles allows holds conditions responses includes excludes j count at₀ k₀ at k =
+Inv-loop steps people roles allows holds conditions responses includes excludes j singles count at₀ k₀ at k =
     (count * 3 ≡ length j) × (length j ≤ 65535) × (k ≤ count)
     × (runOn (lentGraph steps people roles allows holds conditions responses includes excludes) at₀ 0 (entries j)
     ≡ runOn (lentGraph steps people roles allows holds conditions responses includes excludes) at k (entries (drop (3 * k) j)))
 
 abbrev μ-loop : tie.MeasureT-loop
-μ-loop steps people roles allows holds conditions responses includes excludes j count at₀ k₀ at k =
+μ-loop steps people roles allows holds conditions responses includes excludes j singles count at₀ k₀ at k =
     count - k
 
 loop-holds : tie.Need-loop-holds Inv-loop μ-loop
@@ -32,17 +38,18 @@ loop-holds c = (search needs, search needs, search needs, refl)
 entry-at-requires : tie.Need-entry-at-requires Inv-loop μ-loop
 entry-at-requires c κs = search needs
 
-enter-requires : tie.Need-enter-requires Inv-loop μ-loop
-enter-requires c κs = search needs
-
-enum-known-o : tie.Need-enum-known-o Inv-loop μ-loop
-enum-known-o c = search needs
-
-enum-known-o-2 : tie.Need-enum-known-o-2 Inv-loop μ-loop
-enum-known-o-2 c = search needs
+allowed-requires : tie.Need-allowed-requires Inv-loop μ-loop
+allowed-requires c κs = (c .before .before .before .before .before .pre .0, singles-all)
 
 cast-index : tie.Need-cast-index Inv-loop μ-loop
 cast-index c = search needs
+
+refused-requires : tie.Need-refused-requires Inv-loop μ-loop
+refused-requires c κs =
+    let a = c .before .before .before .before .before .before .before .args in
+    let g : Graph = lentGraph (a .steps) (a .people) (a .roles) (a .allows .now) (a .holds .now) (a .conditions .now) (a .responses .now) (a .includes .now) (a .excludes .now) in
+    let b : Counted (a .steps) (a .people) (a .roles) = clear-counts g (c .before .before .before .before .before .before .before .pre .0) in
+    (b .steps-most, b .people-most, b .roles-most)
 
 returns : tie.Need-returns Inv-loop μ-loop
 returns c =
@@ -51,8 +58,18 @@ returns c =
     let g : Graph = lentGraph (a .steps) (a .people) (a .roles) (a .allows .now) (a .holds .now) (a .conditions .now) (a .responses .now) (a .includes .now) (a .excludes .now) in
     let j = a .j .now in
     let room : 3 * (l .k) + 3 ≤ length j = omega arith in
-    let told : entryMove g (l .at) (entryAt j (l .k)) ≡ Move.Refused _ _ = ap (entryMove g (l .at)) (sym (c .before .before .before .before .entry-at .ensures)) ∙ sym (c .before .before .before .enter .ensures) ∙ c .before .o2 .given .1 in
-    sym (l .inv .3 ∙ run-refused g (l .at) _ _ j (l .k) room told)
+    let out : isAllowed g (l .at) (entryAt j (l .k)) ≡ false = ap (isAllowed g (l .at)) (sym (c .before .before .before .before .entry-at .ensures)) ∙ sym (c .before .before .allowed .ensures) ∙ not-true _ (c .before .if1 .taken) in
+    c .refused .ensures
+    ∙ ap (λ (e : Entry). goOn (l .k) (l .at) (entryMove g (l .at) e) (λ next. Ran.Ended next (l .k))) (c .before .before .before .before .entry-at .ensures)
+    ∙ sym (l .inv .3 ∙ run-stopped g (l .at) j (l .k) room out)
+
+taken-requires : tie.Need-taken-requires Inv-loop μ-loop
+taken-requires c κs =
+    let a = c .before .before .before .before .before .before .before .args in
+    let g : Graph = lentGraph (a .steps) (a .people) (a .roles) (a .allows .now) (a .holds .now) (a .conditions .now) (a .responses .now) (a .includes .now) (a .excludes .now) in
+    let b : Counted (a .steps) (a .people) (a .roles) = clear-counts g (c .before .before .before .before .before .before .before .pre .0) in
+    let n : Named g (c .before .before .before .entry-at .result) = allowed-named g (c .before .before .before .before .before .loop .at) (c .before .before .before .entry-at .result) (sym (c .before .allowed .ensures) ∙ not-false _ (c .if1 .left)) in
+    (omega arith, omega arith)
 
 add-k : tie.Need-add-k Inv-loop μ-loop
 add-k c = search needs
@@ -67,8 +84,13 @@ loop-again c =
     let g : Graph = lentGraph (a .steps) (a .people) (a .roles) (a .allows .now) (a .holds .now) (a .conditions .now) (a .responses .now) (a .includes .now) (a .excludes .now) in
     let j = a .j .now in
     let room : 3 * (l .k) + 3 ≤ length j = omega arith in
-    let told : entryMove g (l .at) (entryAt j (l .k)) ≡ Move.Moved _ = ap (entryMove g (l .at)) (sym (c .before .before .before .before .entry-at .ensures)) ∙ sym (c .before .before .before .enter .ensures) ∙ c .before .o .given .1 in
-    (search needs, search needs, search needs, l .inv .3 ∙ run-moved g (l .at) _ j (l .k) room told)
+    let ok : isAllowed g (l .at) _ ≡ true = sym (c .before .before .allowed .ensures) ∙ not-false _ (c .before .if1 .left) in
+    let told : entryMove g (l .at) (entryAt j (l .k)) ≡ Move.Moved _ = ap (entryMove g (l .at)) (sym (c .before .before .before .before .entry-at .ensures)) ∙ allowed-moved g (l .at) _ ok in (
+      search needs,
+      search needs,
+      search needs,
+      l .inv .3 ∙ run-moved g (l .at) _ j (l .k) room told ∙ ap (λ (n : Marking). runOn g n (l .k + 1) (entries (drop (3 * (l .k + 1)) j))) (sym (c .taken .ensures)),
+    )
 
 cast-number : tie.Need-cast-number Inv-loop μ-loop
 cast-number c = search needs
@@ -91,11 +113,11 @@ run-entries-spec =
     μ-loop
     loop-holds
     entry-at-requires
-    enter-requires
-    enum-known-o
-    enum-known-o-2
+    allowed-requires
     cast-index
+    refused-requires
     returns
+    taken-requires
     add-k
     loop-less
     loop-again

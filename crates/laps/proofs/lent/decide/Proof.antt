@@ -1,5 +1,5 @@
 -- `lent::decide`: the leg over the stem, and then the laps from the marking at which it ended. Assumes nothing.
-use mathlib.Core.Path.{sym, _∙_}
+use mathlib.Core.Path.{_≡_, sym, _∙_}
 use borrow.Author.Needs.{needs}
 use Rattle.rules.specs.declared.Graph.{Graph}
 use Rattle.rules.specs.Graph.{lentGraph}
@@ -38,7 +38,8 @@ returns-2 c =
     let g : Graph = lentGraph (a .steps) (a .people) (a .roles) (a .allows .now) (a .holds .now) (a .conditions .now) (a .responses .now) (a .includes .now) (a .excludes .now) in
     let j = entries (a .stem .now) in
     let l = entries (a .lap .now) in
-    c .first-lap .ensures ∙ sym (upon-ended (legOf g (a .m) j) Pass.Stem (λ end x. firstLap g end l) _ _ (sym (c .before .before .before .before .go-through .ensures) ∙ c .before .before .leg2 .given .1))
+    let next : c .first-lap .result ≡ firstLap g (c .before .before .leg2 .given .0 .0) l = c .first-lap .ensures in
+    next ∙ sym (upon-ended (legOf g (a .m) j) Pass.Stem (λ end x. firstLap g end l) _ _ (sym (c .before .before .before .before .go-through .ensures) ∙ c .before .before .leg2 .given .1))
 
 pub decide-spec : {M : Type 1} → statement M
 decide-spec =

@@ -1,5 +1,5 @@
 -- `lent::first_lap`: the leg over the lap, and then the second time from the marking at which it ended. Assumes nothing.
-use mathlib.Core.Path.{sym, _∙_}
+use mathlib.Core.Path.{_≡_, sym, _∙_}
 use borrow.Author.Needs.{needs}
 use Rattle.rules.specs.declared.Graph.{Graph}
 use Rattle.rules.specs.Graph.{lentGraph}
@@ -36,7 +36,8 @@ returns-2 c =
     let a = c .before .before .before .before .before .before .args in
     let g : Graph = lentGraph (a .steps) (a .people) (a .roles) (a .allows .now) (a .holds .now) (a .conditions .now) (a .responses .now) (a .includes .now) (a .excludes .now) in
     let j = entries (a .lap .now) in
-    c .second-lap .ensures ∙ sym (upon-ended (legOf g (a .m) j) Pass.First (λ end x. secondLap g end j) _ _ (sym (c .before .before .before .before .go-through .ensures) ∙ c .before .before .leg2 .given .1))
+    let next : c .second-lap .result ≡ secondLap g (c .before .before .leg2 .given .0 .0) j = c .second-lap .ensures in
+    next ∙ sym (upon-ended (legOf g (a .m) j) Pass.First (λ end x. secondLap g end j) _ _ (sym (c .before .before .before .before .go-through .ensures) ∙ c .before .before .leg2 .given .1))
 
 pub first-lap-spec : {M : Type 1} → statement M
 first-lap-spec =

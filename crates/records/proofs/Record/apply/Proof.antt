@@ -5,7 +5,7 @@ use borrow.Author.Needs.{needs}
 use borrow.Author.Tests.{not-false}
 use Rattle.rules.specs.First.{first, numberOf}
 use Rattle.records.specs.Answers.{theApplication, appliedOf}
-use Rattle.records.specs.Answered.{counts-most}
+use Rattle.records.specs.Answered.{counts-most, applies-on}
 use Rattle.records.proofs.Record.apply.Statement.{statement}
 use Rattle.records.proofs.Record.apply.Tie as tie
 
@@ -30,19 +30,11 @@ returns-3 : tie.Need-returns-3
 unfolding theApplication appliedOf first numberOf
 returns-3 c = simp (ap not (sym (c .before .before .before .before .before .counts .ensures)) ∙ c .before .before .before .before .if1 .left, ap not (sym (c .before .before .before .fits2 .ensures)) ∙ c .before .before .if2 .left, ap not (sym (c .before .well-formed .ensures)) ∙ c .if3 .taken)
 
-suits-requires : tie.Need-suits-requires
-suits-requires c κs = search needs
+applied-requires : tie.Need-applied-requires
+applied-requires c κs = search needs
 
 returns-4 : tie.Need-returns-4
-unfolding theApplication appliedOf first numberOf
-returns-4 c = simp (ap not (sym (c .before .before .before .before .before .before .before .counts .ensures)) ∙ c .before .before .before .before .before .before .if1 .left, ap not (sym (c .before .before .before .before .before .fits2 .ensures)) ∙ c .before .before .before .before .if2 .left, ap not (sym (c .before .before .before .well-formed .ensures)) ∙ c .before .before .if3 .left, ap not (sym (c .before .suits .ensures)) ∙ c .if4 .taken)
-
-given-requires : tie.Need-given-requires
-given-requires c κs = search needs
-
-returns-5 : tie.Need-returns-5
-unfolding theApplication appliedOf first numberOf
-returns-5 c = simp (ap not (sym (c .before .before .before .before .before .before .before .before .counts .ensures)) ∙ c .before .before .before .before .before .before .before .if1 .left, ap not (sym (c .before .before .before .before .before .before .fits2 .ensures)) ∙ c .before .before .before .before .before .if2 .left, ap not (sym (c .before .before .before .before .well-formed .ensures)) ∙ c .before .before .before .if3 .left, ap not (sym (c .before .before .suits .ensures)) ∙ c .before .if4 .left, c .given .ensures)
+returns-4 c = c .applied .ensures ∙ sym (applies-on (c .before .before .before .before .before .before .before .args .n) (c .before .before .before .before .before .before .before .args .self) (c .before .before .before .before .before .before .before .args .m) (sym (c .before .before .before .before .before .before .counts .ensures) ∙ not-false _ (c .before .before .before .before .before .if1 .left)) (sym (c .before .before .before .before .fits2 .ensures) ∙ not-false _ (c .before .before .before .if2 .left)) (sym (c .before .before .well-formed .ensures) ∙ not-false _ (c .before .if3 .left)))
 
 pub apply-spec : {M : Type 1} → statement M
 apply-spec =
@@ -54,7 +46,5 @@ apply-spec =
     returns-2
     well-formed-requires
     returns-3
-    suits-requires
-    returns-4
-    given-requires
-    returns-5)
+    applied-requires
+    returns-4)

@@ -1,0 +1,8 @@
+pub mod More
+pub mod Arrows
+pub mod Lists
+pub mod Places
+pub mod Table
+pub mod Codec
+pub mod Rows
+pub mod Loops

@@ -1,0 +1,185 @@
+-- What the loops over arrows carry: for each, what is left to do and the law for one turn more. Assumes nothing.
+use Prim.Native.Nat.{ℕ, zero, suc, _+_, _-_, _*_, _/_, _%_, _^_, _≤_, _<_}
+use mathlib.Core.Path.{_≡_, refl, sym, ap, ap₂, _∙_, subst}
+use mathlib.Core.List.{List, [], _∷_, _++_, map}
+use mathlib.Core.Bool.{Bool, true, false, _&&_, cond, true≢false}
+use native.Mathlib.Numerals.{add-one}
+use native.Mathlib.Omega.{arith}
+use native.Mathlib.Decide.{decLt}
+use lib.ListN.{length, getD, set, drop, length-set, length-map, drop-of-length-le}
+use lib.Seq.{sets, drop-cons}
+use lib.Dec.{leb}
+use Rattle.sets.specs.Sets.{has, single, union, minus, lowest}
+use Rattle.sets.specs.Laws.{and-left, and-right, lowest-has, has-above}
+use Rattle.rules.specs.Graph.{row}
+use Rattle.numbers.specs.Numbers.{Spliced}
+use Rattle.numbers.specs.Laws.{spliced-then}
+use Rattle.arrows.specs.Arrows.{Arrow, arrowsIn, known, arrowsFit, put, putAll, place, spelt}
+use Rattle.arrows.specs.Lists.{listed-length}
+use Rattle.arrows.specs.Places.{fitFrom, fit-places, length-spelt, spelt-append}
+use Rattle.arrows.specs.Rows.{members, members-none, members-more, toward, rowArrows, kindArrows, countOf, count-arrows}
+
+-- ---- reading
+
+-- the arrow is known, and its place is at least `next`
+abbrev pub passes : ℕ → ℕ → Arrow → Bool
+passes n next x = known n x && leb next (place x)
+
+-- the table with the arrows up to the first that does not pass
+unfoldable pub filled : ℕ → ℕ → List ℕ → List Arrow → List ℕ
+filled n next table [] = table
+filled n next table (x ∷ rest) = cond (passes n next x) (filled n (place x + 1) (put table x) rest) table
+
+-- where all fit it is the table with all of them
+pub filled-all : (n next : ℕ) (table : List ℕ) (l : List Arrow) → fitFrom n next l ≡ true → filled n next table l ≡ putAll table l
+unfolding filled putAll fitFrom
+filled-all n next table [] e = refl
+filled-all n next table (x ∷ rest) e =
+    ap (λ (b : Bool). cond b (filled n (place x + 1) (put table x) rest) table) (and-left (passes n next x) (fitFrom n (place x + 1) rest) e)
+    ∙ filled-all n (place x + 1) (put table x) rest (and-right (passes n next x) (fitFrom n (place x + 1) rest) e)
+
+-- the arrow that the three bytes at i spell
+abbrev pub arrowIn : List ℕ → ℕ → Arrow
+arrowIn s i = record { kind = getD s i 0; from = getD s (i + 1) 0; to = getD s (i + 2) 0 }
+
+-- and those after it
+pub arrow-at : (s : List ℕ) (i : ℕ) → i + 2 < length s → arrowsIn (drop i s) ≡ arrowIn s i ∷ arrowsIn (drop (i + 3) s)
+unfolding arrowsIn
+arrow-at s i h =
+    ap arrowsIn
+    (drop-cons s i 0 (omega arith)
+    ∙ ap (λ (l : List ℕ). getD s i 0 ∷ l) (ap (λ (k : ℕ). drop k s) (let z : suc i ≡ i + 1 = omega arith in z) ∙ drop-cons s (i + 1) 0 (omega arith)
+    ∙ ap (λ (l : List ℕ). getD s (i + 1) 0 ∷ l) (ap (λ (k : ℕ). drop k s) (let z : suc (i + 1) ≡ i + 2 = omega arith in z) ∙ drop-cons s (i + 2) 0 (omega arith)
+    ∙ ap (λ (k : ℕ). getD s (i + 2) 0 ∷ drop k s) (let z : suc (i + 2) ≡ i + 3 = omega arith in z))))
+
+pub arrows-end : (s : List ℕ) (i : ℕ) → length s ≤ i → arrowsIn (drop i s) ≡ []
+unfolding arrowsIn
+arrows-end s i h = ap arrowsIn (drop-of-length-le s h)
+
+-- what is left of a body, from byte i on, decides what is left to do
+pub record Reading (n : ℕ) (s table₀ : List ℕ) (next i : ℕ) (table : List ℕ) : Type 0 where
+  pub fit : fitFrom n 0 (arrowsIn s) ≡ fitFrom n next (arrowsIn (drop i s))
+  pub full : filled n 0 table₀ (arrowsIn s) ≡ filled n next table (arrowsIn (drop i s))
+
+module _ (n : ℕ) (s table₀ : List ℕ) where
+  pub reading-start : Reading n s table₀ 0 0 table₀
+  reading-start = record { fit = refl; full = refl }
+
+  module _ (next i : ℕ) (table : List ℕ) (r : Reading n s table₀ next i table) where
+    pub reading-more : i + 2 < length s → passes n next (arrowIn s i) ≡ true → Reading n s table₀ (place (arrowIn s i) + 1) (i + 3) (put table (arrowIn s i))
+    unfolding fitFrom filled
+    reading-more h e = record {
+      fit = r .fit ∙ ap (fitFrom n next) (arrow-at s i h) ∙ ap (λ (b : Bool). b && fitFrom n (place (arrowIn s i) + 1) (arrowsIn (drop (i + 3) s))) e;
+      full = r .full ∙ ap (filled n next table) (arrow-at s i h) ∙ ap (λ (b : Bool). cond b (filled n (place (arrowIn s i) + 1) (put table (arrowIn s i)) (arrowsIn (drop (i + 3) s))) table) e;
+    }
+
+    pub reading-refused : n ≤ 64 → i + 2 < length s → passes n next (arrowIn s i) ≡ false → (false ≡ arrowsFit n (arrowsIn s)) × (table ≡ filled n 0 table₀ (arrowsIn s))
+    unfolding fitFrom filled
+    reading-refused k h e = (
+      sym (sym (fit-places n (arrowsIn s) k) ∙ r .fit ∙ ap (fitFrom n next) (arrow-at s i h) ∙ ap (λ (b : Bool). b && fitFrom n (place (arrowIn s i) + 1) (arrowsIn (drop (i + 3) s))) e),
+      sym (r .full ∙ ap (filled n next table) (arrow-at s i h) ∙ ap (λ (b : Bool). cond b (filled n (place (arrowIn s i) + 1) (put table (arrowIn s i)) (arrowsIn (drop (i + 3) s))) table) e),
+    )
+
+    pub reading-done : n ≤ 64 → length s ≤ i → (true ≡ arrowsFit n (arrowsIn s)) × (table ≡ filled n 0 table₀ (arrowsIn s))
+    unfolding fitFrom filled
+    reading-done k h =
+        (sym (sym (fit-places n (arrowsIn s) k) ∙ r .fit ∙ ap (fitFrom n next) (arrows-end s i h)), sym (r .full ∙ ap (filled n next table) (arrows-end s i h)))
+
+-- ---- writing
+
+-- the lowest step of a row, and the rest of the row
+pub row-more : (k a x : ℕ) → x < 2 ^ 64 → (x ≡ 0 → ⊥) → rowArrows k a x ≡ toward k a (lowest 64 x) ∷ rowArrows k a (minus x (single (lowest 64 x)))
+row-more k a x small some = ap (map (toward k a)) (members-more x small some)
+
+pub row-none : (k a x : ℕ) → x ≡ 0 → rowArrows k a x ≡ []
+row-none k a x e = ap (rowArrows k a) e ∙ ap (map (toward k a)) members-none
+
+-- one step fewer
+pub members-less : (x : ℕ) → x < 2 ^ 64 → (x ≡ 0 → ⊥) → length (members x) ≡ suc (length (members (minus x (single (lowest 64 x)))))
+members-less x small some = ap length (members-more x small some)
+
+pub members-nil : (x : ℕ) → x ≡ 0 → length (members x) ≡ 0
+members-nil x e = ap (λ (y : ℕ). length (members y)) e ∙ ap length members-none
+
+pub lowest-below : (x : ℕ) → x < 2 ^ 64 → (x ≡ 0 → ⊥) → lowest 64 x < 64
+lowest-below x small some = go (decLt (lowest 64 x) 64)
+  where
+    go : Dec (lowest 64 x < 64) → lowest 64 x < 64
+    go (yes l) = l
+    go (no l) = absurd (true≢false (sym (lowest-has 64 x small some) ∙ has-above 64 x (lowest 64 x) small (omega arith)))
+
+sets-three : (l v : List ℕ) (i a b c : ℕ) → sets l i (a ∷ b ∷ c ∷ v) ≡ sets (set (set (set l i a) (i + 1) b) (i + 2) c) (i + 3) v
+sets-three l v i a b c =
+    let p : suc i ≡ i + 1 = omega arith in
+    let q : suc (suc i) ≡ i + 2 = omega arith in
+    let r : suc (suc (suc i)) ≡ i + 3 = omega arith in
+    λ j. sets (set (set (set l i a) (p j) b) (q j) c) (r j) v
+
+-- one arrow is written, the rest of the row is left
+pub write-more : (room : List ℕ) (to k a x : ℕ) → x < 2 ^ 64 → (x ≡ 0 → ⊥)
+    → sets room to (spelt (rowArrows k a x))
+    ≡ sets (set (set (set room to k) (to + 1) a) (to + 2) (lowest 64 x)) (to + 3) (spelt (rowArrows k a (minus x (single (lowest 64 x)))))
+unfolding spelt
+write-more room to k a x small some =
+    ap (λ (l : List Arrow). sets room to (spelt l)) (row-more k a x small some)
+    ∙ sets-three room (spelt (rowArrows k a (minus x (single (lowest 64 x))))) to k a (lowest 64 x)
+
+pub write-done : (room : List ℕ) (to k a x : ℕ) → x ≡ 0 → sets room to (spelt (rowArrows k a x)) ≡ room
+unfolding spelt
+write-done room to k a x e = ap (λ (l : List Arrow). sets room to (spelt l)) (row-none k a x e)
+
+pub length-row : (k a x : ℕ) → length (spelt (rowArrows k a x)) ≡ 3 * length (members x)
+length-row k a x = length-spelt (rowArrows k a x) ∙ ap (λ (n : ℕ). 3 * n) (length-map (members x) (toward k a))
+
+pub length-kind : (k n : ℕ) (rows : ℕ → ℕ) → length (spelt (kindArrows k n rows)) ≡ 3 * countOf n rows
+length-kind k n rows = length-spelt (kindArrows k n rows) ∙ ap (λ (m : ℕ). 3 * m) (count-arrows k n rows)
+
+-- no row
+pub kind-none : (k at : ℕ) (rows : ℕ → ℕ) (room : List ℕ) → Spliced (spelt (kindArrows k 0 rows)) at room room at
+unfolding kindArrows spelt
+kind-none k at rows room = record { next = omega arith; stored = refl }
+
+-- one row more
+pub kind-more : (k a at : ℕ) (rows : ℕ → ℕ) (old mid new : List ℕ) (r q : ℕ) → Spliced (spelt (kindArrows k a rows)) at old mid r → Spliced (spelt (rowArrows k a (rows a))) r mid new q
+    → Spliced (spelt (kindArrows k (a + 1) rows)) at old new q
+unfolding kindArrows
+kind-more k a at rows old mid new r q s t =
+    subst (λ (v : List ℕ). Spliced v at old new q)
+    (sym (spelt-append (kindArrows k a rows) (rowArrows k a (rows a))) ∙ ap (λ (n : ℕ). spelt (kindArrows k n rows)) (sym (add-one a)))
+    (spliced-then (spelt (kindArrows k a rows)) (spelt (rowArrows k a (rows a))) at old mid new r q s t)
+
+pub count-more : (a : ℕ) (rows : ℕ → ℕ) → countOf (a + 1) rows ≡ countOf a rows + length (members (rows a))
+unfolding countOf
+count-more a rows = rw add-one refl
+
+pub count-most : (n : ℕ) (rows : ℕ → ℕ) → countOf n rows ≤ 64 * n
+unfolding countOf
+count-most zero rows = omega arith
+count-most (suc a) rows =
+    let r : countOf a rows ≤ 64 * a = count-most a rows in
+    let l : length (members (rows a)) ≤ 64 = listed-length 64 0 (has (rows a)) in
+    omega arith
+
+-- ---- turning
+
+putAll-append : (t : List ℕ) (l m : List Arrow) → putAll (putAll t l) m ≡ putAll t (l ++ m)
+unfolding putAll
+putAll-append t [] m = refl
+putAll-append t (x ∷ rest) m = putAll-append (put t x) rest m
+
+-- one step of the row is put, the rest is left
+pub spill-more : (t : List ℕ) (b x : ℕ) → x < 2 ^ 64 → (x ≡ 0 → ⊥)
+    → putAll t (rowArrows 0 b x) ≡ putAll (set t (lowest 64 x) (union (row t (lowest 64 x)) (single b))) (rowArrows 0 b (minus x (single (lowest 64 x))))
+unfolding putAll put
+spill-more t b x small some = ap (putAll t) (row-more 0 b x small some)
+
+pub spill-done : (t : List ℕ) (b x : ℕ) → x ≡ 0 → putAll t (rowArrows 0 b x) ≡ t
+unfolding putAll
+spill-done t b x e = ap (putAll t) (row-none 0 b x e)
+
+pub turn-more : (t : List ℕ) (b : ℕ) (rows : ℕ → ℕ) → putAll (putAll t (kindArrows 0 b rows)) (rowArrows 0 b (rows b)) ≡ putAll t (kindArrows 0 (b + 1) rows)
+unfolding kindArrows
+turn-more t b rows = putAll-append t (kindArrows 0 b rows) (rowArrows 0 b (rows b)) ∙ ap (λ (n : ℕ). putAll t (kindArrows 0 n rows)) (sym (add-one b))
+
+pub length-three : (l : List ℕ) (i a j b k c : ℕ) → length (set (set (set l i a) j b) k c) ≡ length l
+length-three l i a j b k c = length-set (set (set l i a) j b) k c ∙ length-set (set l i a) j b ∙ length-set l i a

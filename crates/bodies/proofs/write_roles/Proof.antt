@@ -1,0 +1,78 @@
+-- `write_roles`: the role sets passed are written. Assumes nothing.
+use Prim.Native.Nat.{ℕ, _+_, _-_, _*_, _≤_}
+use mathlib.Core.Path.{_≡_, refl, _∙_, subst}
+use native.Mathlib.Omega.{arith}
+use lib.ListN.{length}
+use borrow.Author.Needs.{needs}
+use Rattle.numbers.specs.Numbers.{Spliced}
+use Rattle.numbers.specs.Laws.{spliced-length}
+use Rattle.bodies.specs.Bodies.{rolesBody}
+use Rattle.bodies.specs.Laws.{length-roles, roles-none, roles-more}
+use Rattle.bodies.proofs.write_roles.Statement.{statement}
+use Rattle.bodies.proofs.write_roles.Tie as tie
+
+abbrev Inv-loop : tie.InvT-loop
+Inv-loop count table room₀ at to₀ i₀ room to i = (i ≤ count) × (length room ≡ length room₀) × Spliced (rolesBody i table) at room₀ room to
+
+abbrev μ-loop : tie.MeasureT-loop
+μ-loop count table room₀ at to₀ i₀ room to i = count - i
+
+loop-holds : tie.Need-loop-holds Inv-loop μ-loop
+loop-holds c =
+    let a = c .before .before .args in
+    (search needs, refl, roles-none (a .table .now) (a .room .now) (a .at))
+
+mul-put : tie.Need-mul-put Inv-loop μ-loop
+mul-put c = search needs
+
+shared-slice-read-put : tie.Need-shared-slice-read-put Inv-loop μ-loop
+shared-slice-read-put c = search needs
+
+cast-put : tie.Need-cast-put Inv-loop μ-loop
+cast-put c = omega (arith, c .shared-slice-known2 .given (c .before .before .loop .i))
+
+put-requires : tie.Need-put-requires Inv-loop μ-loop
+put-requires c κs =
+    let a = c .before .before .before .before .before .before .args in
+    let l = c .before .before .before .loop in
+    let gone : length (rolesBody (l .i) (a .table .now)) ≡ 2 * l .i = length-roles (l .i) (a .table .now) in
+    let next : l .to ≡ a .at + length (rolesBody (l .i) (a .table .now)) = l .inv .2 .next in
+    omega arith
+
+add-i : tie.Need-add-i Inv-loop μ-loop
+add-i c = search needs
+
+loop-less : tie.Need-loop-less Inv-loop μ-loop
+loop-less c = search needs
+
+loop-again : tie.Need-loop-again Inv-loop μ-loop
+loop-again c =
+    let a = c .before .before .before .before .before .before .before .before .before .args in
+    let l = c .before .before .before .before .before .before .loop in
+    (search needs, spliced-length _ _ _ _ _ (c .before .before .put .ensures) ∙ l .inv .1, roles-more (l .i) (a .at) (a .table .now) (a .room .now) (l .room) _ (l .to) _ (l .inv .2) (c .before .before .put .ensures))
+
+same-length : tie.Need-same-length Inv-loop μ-loop
+same-length c = c .before .loop .inv .1
+
+returns : tie.Need-returns Inv-loop μ-loop
+returns c =
+    let a = c .before .before .before .before .args in
+    let l = c .before .loop in
+    subst (λ (k : ℕ). Spliced (rolesBody k (a .table .now)) (a .at) (a .room .now) (l .room) (l .to)) (let e : l .i ≡ a .count = omega arith in e) (l .inv .2)
+
+pub write-roles-spec : {M : Type 1} → statement M
+write-roles-spec =
+    tie.close
+    (tie.spec
+    Inv-loop
+    μ-loop
+    loop-holds
+    mul-put
+    shared-slice-read-put
+    cast-put
+    put-requires
+    add-i
+    loop-less
+    loop-again
+    same-length
+    returns)

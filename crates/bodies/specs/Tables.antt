@@ -1,0 +1,62 @@
+-- Tables made row by row. Assumes nothing.
+use Prim.Native.Nat.{ℕ, zero, suc, _+_, _≤_, _<_}
+use mathlib.Core.Path.{_≡_, refl, sym, ap, ap₂, _∙_, subst}
+use mathlib.Core.List.{List, [], _∷_, _++_, append-nil}
+use native.Mathlib.Nat.{not-suc-le-zero}
+use native.Mathlib.Numerals.{add-one}
+use native.Mathlib.Omega.{arith}
+use native.Mathlib.Decide.{decLt}
+use lib.ListN.{length, getD, set, drop, replicate, length-append, length-replicate, List·getD-append, List·getD-eq-default, drop-of-length-le}
+use lib.Seq.{sets, sets-eq, getD-at, ext-getD}
+use Rattle.rules.specs.Graph.{row}
+use Rattle.numbers.specs.Laws.{sets-append}
+
+-- the rows f 0, f 1, .. up to the k-th
+unfoldable pub tabled : ℕ → (ℕ → ℕ) → List ℕ
+tabled zero f = []
+tabled (suc k) f = tabled k f ++ (f k ∷ [])
+
+pub length-tabled : (k : ℕ) (f : ℕ → ℕ) → length (tabled k f) ≡ k
+unfolding tabled
+length-tabled zero f = refl
+length-tabled (suc k) f = let r : length (tabled k f) ≡ k = length-tabled k f in length-append (tabled k f) (f k ∷ []) ∙ let z : length (tabled k f) + 1 ≡ suc k = omega arith in z
+
+pub row-tabled : (k : ℕ) (f : ℕ → ℕ) (i : ℕ) → i < k → row (tabled k f) i ≡ f i
+unfolding tabled
+row-tabled zero f i h = absurd (not-suc-le-zero h)
+row-tabled (suc k) f i h = go (decLt i k) (row-tabled k f i)
+  where
+    go : Dec (i < k) → (i < k → row (tabled k f) i ≡ f i) → row (tabled k f ++ (f k ∷ [])) i ≡ f i
+    go (yes l) rest = List·getD-append (tabled k f) (f k ∷ []) 0 i (let n : length (tabled k f) ≡ k = length-tabled k f in omega arith) ∙ rest l
+    go (no l) rest =
+        let e : i ≡ k = omega arith in
+        getD-at (tabled k f) (f k) [] 0 i (length-tabled k f ∙ sym e) ∙ ap f (sym e)
+
+pub row-beyond : (k : ℕ) (f : ℕ → ℕ) (i : ℕ) → k ≤ i → row (tabled k f) i ≡ 0
+row-beyond k f i h = List·getD-eq-default (tabled k f) 0 {n = i} (subst (λ (n : ℕ). n ≤ i) (sym (length-tabled k f)) h)
+
+pub tabled-same : (k : ℕ) (f g : ℕ → ℕ) → ((i : ℕ) → i < k → f i ≡ g i) → tabled k f ≡ tabled k g
+unfolding tabled
+tabled-same zero f g e = refl
+tabled-same (suc k) f g e = ap₂ (λ (l : List ℕ) (x : ℕ). l ++ (x ∷ [])) (tabled-same k f g (λ i h. e i (omega arith))) (e k (omega arith))
+
+-- a table of k rows is made of its rows
+pub tabled-rows : (k : ℕ) (t : List ℕ) → length t ≡ k → tabled k (row t) ≡ t
+tabled-rows k t e =
+    ext-getD 0 (tabled k (row t)) t (length-tabled k (row t) ∙ sym e) (λ i h. row-tabled k (row t) i (let n : length (tabled k (row t)) ≡ k = length-tabled k (row t) in omega arith))
+
+-- ---- the loop that fills an array from the front
+
+pub fill-more : (l : List ℕ) (i : ℕ) (f : ℕ → ℕ) → set (sets l 0 (tabled i f)) i (f i) ≡ sets l 0 (tabled (i + 1) f)
+unfolding tabled
+fill-more l i f =
+    ap (λ (k : ℕ). set (sets l 0 (tabled i f)) k (f i)) (let n : length (tabled i f) ≡ i = length-tabled i f in let z : i ≡ 0 + length (tabled i f) = omega arith in z)
+    ∙ sets-append (tabled i f) (f i ∷ []) l 0
+    ∙ ap (λ (k : ℕ). sets l 0 (tabled k f)) (sym (add-one i))
+
+pub fill-done : (l : List ℕ) (k : ℕ) (f : ℕ → ℕ) → length l ≡ k → sets l 0 (tabled k f) ≡ tabled k f
+fill-done l k f e =
+    let n : length (tabled k f) ≡ k = length-tabled k f in
+    sets-eq (tabled k f) l 0 (omega arith)
+    ∙ ap (λ (r : List ℕ). tabled k f ++ r) (drop-of-length-le l (let z : length l ≤ 0 + length (tabled k f) = omega arith in z))
+    ∙ append-nil (tabled k f)

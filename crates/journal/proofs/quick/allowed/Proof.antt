@@ -1,0 +1,98 @@
+-- `quick::allowed`: on a graph with nothing against it an entry names what there is wherever its role is held and had, so the counts are not asked; the
+-- other tests are those of its table. Assumes nothing.
+use Prim.Native.Nat.{ℕ}
+use mathlib.Core.Path.{_≡_, sym, ap, _∙_}
+use mathlib.Core.Bool.{true, false}
+use native.Mathlib.Omega.{arith}
+use lib.Bits.{or-add-and, and-le-l, and-le-r}
+use lib.Dec.{eqb}
+use borrow.Author.Needs.{needs}
+use borrow.Author.Tests.{not-true, not-false, eq-eqb, ne-eqb}
+use Rattle.sets.specs.Sets.{has, single, meet}
+use Rattle.rules.specs.declared.Graph.{Graph}
+use Rattle.rules.specs.declared.inner.Row.{Row}
+use Rattle.rules.specs.Graph.{row, lentGraph, rolesHeld, rolesOf}
+use Rattle.rules.specs.Move.{isIncluded, waitsFor}
+use Rattle.journal.specs.Allowed.{unknown-person-role, unknown-step, without-role, not-included, role-left}
+use Rattle.journal.specs.Singles.{single-asked}
+use Rattle.journal.proofs.quick.allowed.Statement.{statement}
+use Rattle.journal.proofs.quick.allowed.Tie as tie
+
+returns : tie.Need-returns
+returns c =
+    let a = c .before .args in
+    let g : Graph = lentGraph (a .steps) (a .people) (a .roles) (a .allows .now) (a .holds .now) (a .conditions .now) (a .responses .now) (a .includes .now) (a .excludes .now) in
+    let e = a .e in
+    sym (unknown-person-role g (a .m) e (c .before .pre .0) (c .if1 .taken))
+
+returns-2 : tie.Need-returns-2
+returns-2 c =
+    let a = c .before .before .args in
+    let g : Graph = lentGraph (a .steps) (a .people) (a .roles) (a .allows .now) (a .holds .now) (a .conditions .now) (a .responses .now) (a .includes .now) (a .excludes .now) in
+    let e = a .e in
+    sym (unknown-step g (a .m) e (c .before .before .pre .0) (c .if2 .taken))
+
+row-at-requires : tie.Need-row-at-requires
+row-at-requires c κs =
+    let e = c .before .before .args .e in
+    omega (arith, or-add-and (e .person) (e .role), and-le-r (e .person) (e .role))
+
+has-role-requires : tie.Need-has-role-requires
+has-role-requires c κs =
+    let e = c .before .before .before .before .args .e in
+    omega (arith, or-add-and (e .person) (e .role), and-le-l (e .person) (e .role))
+
+returns-3 : tie.Need-returns-3
+returns-3 c =
+    let a = c .before .before .before .before .before .before .args in
+    let g : Graph = lentGraph (a .steps) (a .people) (a .roles) (a .allows .now) (a .holds .now) (a .conditions .now) (a .responses .now) (a .includes .now) (a .excludes .now) in
+    let e = a .e in
+    let out : has (meet (rolesHeld g (e .person)) (rolesOf g (e .step .0))) (e .role) ≡ false = ap (λ (w : Row). has (meet (w .held) (w .allows)) (e .role)) (sym (c .before .before .before .row-at .ensures)) ∙ sym (c .before .has-role .ensures) ∙ not-true _ (c .if3 .taken) in
+    sym (without-role g (a .m) e out)
+
+cast-i : tie.Need-cast-i
+cast-i c = search needs
+
+mul-if4 : tie.Need-mul-if4
+mul-if4 c = search needs
+
+element-copy-out-if4 : tie.Need-element-copy-out-if4
+element-copy-out-if4 c = search needs
+
+returns-4 : tie.Need-returns-4
+returns-4 c =
+    let a = c .before .before .before .before .before .before .before .before .before .args in
+    let g : Graph = lentGraph (a .steps) (a .people) (a .roles) (a .allows .now) (a .holds .now) (a .conditions .now) (a .responses .now) (a .includes .now) (a .excludes .now) in
+    let e = a .e in
+    let here : row (a .singles .now) (e .step .0) ≡ single (e .step .0) = c .before .before .before .before .before .before .before .before .before .pre .1 (e .step .0) (c .before .before .before .before .before .before .before .if2 .left) in
+    let out : isIncluded (a .m) e ≡ false = not-true _ (sym (single-asked (a .m .included) (e .step .0)) ∙ eq-eqb _ 0 (ap (meet (a .m .included)) (sym here) ∙ c .if4 .taken)) in
+    sym (not-included g (a .m) e out)
+
+waits-requires : tie.Need-waits-requires
+waits-requires c κs = search needs
+
+returns-5 : tie.Need-returns-5
+returns-5 c =
+    let a = c .before .before .before .before .before .before .before .before .before .before .args in
+    let g : Graph = lentGraph (a .steps) (a .people) (a .roles) (a .allows .now) (a .holds .now) (a .conditions .now) (a .responses .now) (a .includes .now) (a .excludes .now) in
+    let e = a .e in
+    let both : has (meet (rolesHeld g (e .person)) (rolesOf g (e .step .0))) (e .role) ≡ true = ap (λ (w : Row). has (meet (w .held) (w .allows)) (e .role)) (sym (c .before .before .before .before .before .before .before .row-at .ensures)) ∙ sym (c .before .before .before .before .before .has-role .ensures) ∙ not-false _ (c .before .before .before .before .if3 .left) in
+    let here : row (a .singles .now) (e .step .0) ≡ single (e .step .0) = c .before .before .before .before .before .before .before .before .before .before .pre .1 (e .step .0) (c .before .before .before .before .before .before .before .before .if2 .left) in
+    let included : isIncluded (a .m) e ≡ true = not-false _ (sym (single-asked (a .m .included) (e .step .0)) ∙ ne-eqb _ 0 (λ q. c .before .if4 .left (ap (meet (a .m .included)) here ∙ q))) in
+    ap (λ (x : ℕ). eqb x 0) (c .waits .ensures ∙ ap (λ (w : Row). waitsFor (w .conditions) (a .m)) (c .before .before .before .before .before .before .before .row-at .ensures)) ∙ sym (role-left g (a .m) e (c .before .before .before .before .before .before .before .before .before .before .pre .0) both included)
+
+pub allowed-spec : {M : Type 1} → statement M
+allowed-spec =
+    tie.close
+    (tie.spec
+    returns
+    returns-2
+    row-at-requires
+    has-role-requires
+    returns-3
+    cast-i
+    mul-if4
+    element-copy-out-if4
+    returns-4
+    waits-requires
+    returns-5)

@@ -1,0 +1,201 @@
+-- Is an entry allowed? Asked all at once, and how a run tests it on a graph with nothing against it.
+-- Assumes nothing.
+use Prim.Native.Nat.{ℕ, _^_, _≤_, _<_}
+use mathlib.Core.Path.{_≡_, refl, sym, ap, _∙_, subst}
+use mathlib.Core.List.{List, [], _∷_}
+use mathlib.Core.Bool.{Bool, true, false, not, _&&_, cond, true≢false}
+use native.Mathlib.Decide.{decLt}
+use native.Mathlib.Omega.{arith}
+use lib.Bits.{bitOr, or-lt}
+use lib.Dec.{ltb}
+use lib.ListN.{length, List·getD-eq-default}
+use borrow.Author.Tests.{ltb-true, lt-ltb, le-ltb, not-true, not-false}
+use Rattle.sets.specs.Sets.{has, meet, empty, within}
+use Rattle.sets.specs.Laws.{and-left, and-right, and-intro, has-meet, has-zero, has-above, every-at}
+use Rattle.rules.specs.declared.Graph.{Graph}
+use Rattle.rules.specs.declared.Marking.{Marking}
+use Rattle.rules.specs.declared.Entry.{Entry}
+use Rattle.rules.specs.declared.Refusal.{Refusal}
+use Rattle.rules.specs.declared.Verdict.{Verdict}
+use Rattle.rules.specs.declared.Move.{Move}
+use Rattle.rules.specs.First.{Line, first}
+use Rattle.rules.specs.Graph.{row, keeps, rolesFit, setsFit, rolesOf, rolesHeld, graphVerdict}
+use Rattle.rules.specs.Move.{rowOf, known, isIncluded, waitsFor, after, entryLines, entryMove, moveOf}
+use Rattle.rules.specs.Laws.{Counted, clear-counts, clear-head, clear-tail}
+use Rattle.rules.specs.Sound.{clear-sound}
+
+-- no line of the table holds
+unfoldable pub nothingIn : List Line → Bool
+nothingIn [] = true
+nothingIn (l ∷ rest) = not (l .1) && nothingIn rest
+
+-- an entry is allowed where nothing in its table holds
+abbrev pub isAllowed : Graph → Marking → Entry → Bool
+isAllowed g m e = nothingIn (entryLines g m e)
+
+-- ---- what that says of the move
+
+nothing-clear : (a : List Line) → nothingIn a ≡ true → first a ≡ Verdict.Clear
+unfolding nothingIn first
+nothing-clear [] e = refl
+nothing-clear (l ∷ a) e =
+    ap (λ (b : Bool). cond b (Verdict.Refused (l .0)) (first a)) (not-true (l .1) (and-left (not (l .1)) (nothingIn a) e))
+    ∙ nothing-clear a (and-right (not (l .1)) (nothingIn a) e)
+
+something-refused : (a : List Line) → nothingIn a ≡ false → (r : Refusal) × (first a ≡ Verdict.Refused r)
+unfolding nothingIn first
+something-refused [] e = absurd (true≢false e)
+something-refused (l ∷ a) e = go (l .1) refl (something-refused a)
+  where
+    go : (b : Bool) → l .1 ≡ b → (nothingIn a ≡ false → (r : Refusal) × (first a ≡ Verdict.Refused r)) → (r : Refusal) × (cond (l .1) (Verdict.Refused (l .0)) (first a) ≡ Verdict.Refused r)
+    go true p rest = (l .0, ap (λ (b : Bool). cond b (Verdict.Refused (l .0)) (first a)) p)
+    go false p rest =
+        let later = rest (ap (λ (b : Bool). not b && nothingIn a) (sym p) ∙ e) in
+        (later .0, ap (λ (b : Bool). cond b (Verdict.Refused (l .0)) (first a)) p ∙ later .1)
+
+pub allowed-moved : (g : Graph) (m : Marking) (e : Entry) → isAllowed g m e ≡ true
+    → entryMove g m e ≡ Move.Moved (after (rowOf g (e .person) (e .step .0)) m (e .step .0))
+unfolding entryMove moveOf
+allowed-moved g m e ok = ap (λ (v : Verdict). moveOf v m (after (rowOf g (e .person) (e .step .0)) m (e .step .0))) (nothing-clear (entryLines g m e) ok)
+
+pub refused-moved : (g : Graph) (m : Marking) (e : Entry) → isAllowed g m e ≡ false → (r : Refusal) × (back : Marking) × (entryMove g m e ≡ Move.Refused r back)
+unfolding entryMove moveOf
+refused-moved g m e out =
+    let f = something-refused (entryLines g m e) out in
+    (f .0, _, ap (λ (v : Verdict). moveOf v m (after (rowOf g (e .person) (e .step .0)) m (e .step .0))) (f .1))
+
+-- ---- its five tests
+
+parts : (a b c d w : Bool) → (not (not a) && (not (not b) && (not (not c) && (not (not d) && (not (not w) && true))))) ≡ (a && (b && (c && (d && w))))
+parts false b c d w = refl
+parts true false c d w = refl
+parts true true false d w = refl
+parts true true true false w = refl
+parts true true true true false = refl
+parts true true true true true = refl
+
+abbrev noneWaits : Graph → Marking → Entry → Bool
+noneWaits g m e = empty (waitsFor (rowOf g (e .person) (e .step .0) .conditions) m)
+
+allowed-parts : (g : Graph) (m : Marking) (e : Entry)
+    → isAllowed g m e ≡ (known g e && (has (rolesHeld g (e .person)) (e .role) && (has (rolesOf g (e .step .0)) (e .role) && (isIncluded m e && noneWaits g m e))))
+unfolding nothingIn
+allowed-parts g m e = parts (known g e) (has (rolesHeld g (e .person)) (e .role)) (has (rolesOf g (e .step .0)) (e .role)) (isIncluded m e) (noneWaits g m e)
+
+is-not : (b : Bool) → (b ≡ true → ⊥) → b ≡ false
+is-not true h = absurd (h refl)
+is-not false h = refl
+
+-- an allowed entry names what there is
+pub record Named (g : Graph) (e : Entry) : Type 0 where
+  pub person-in : e .person < g .people
+  pub step-in : e .step .0 < g .steps
+  pub role-in : e .role < g .roles
+
+known-named : (g : Graph) (e : Entry) → known g e ≡ true → Named g e
+known-named g e k =
+    let p = ltb (e .person) (g .people) in
+    let s = ltb (e .step .0) (g .steps) in
+    let r = ltb (e .role) (g .roles) in
+    record {
+      person-in = ltb-true (e .person) (g .people) (and-left p s (and-left (p && s) r k));
+      step-in = ltb-true (e .step .0) (g .steps) (and-right p s (and-left (p && s) r k));
+      role-in = ltb-true (e .role) (g .roles) (and-right (p && s) r k);
+    }
+
+pub allowed-named : (g : Graph) (m : Marking) (e : Entry) → isAllowed g m e ≡ true → Named g e
+allowed-named g m e ok = known-named g e (and-left (known g e) _ (sym (allowed-parts g m e) ∙ ok))
+
+-- ---- the tests of a run, on a graph with nothing against it
+
+-- a person or a role from 16 on is unknown
+pub unknown-person-role : (g : Graph) (m : Marking) (e : Entry) → graphVerdict g ≡ Verdict.Clear → 16 ≤ bitOr (e .person) (e .role) → isAllowed g m e ≡ false
+unknown-person-role g m e clear h =
+    is-not (isAllowed g m e) (λ ok.
+    let n : Named g e = allowed-named g m e ok in
+    let b : Counted (g .steps) (g .people) (g .roles) = clear-counts g clear in
+    let small : bitOr (e .person) (e .role) < 2 ^ 4 = or-lt 4 (e .person) (e .role) (let z : e .person < 16 = omega arith in z) (let z : e .role < 16 = omega arith in z) in
+    let w : ⊥ = omega arith in w)
+
+-- a step from 64 on is unknown
+pub unknown-step : (g : Graph) (m : Marking) (e : Entry) → graphVerdict g ≡ Verdict.Clear → 64 ≤ e .step .0 → isAllowed g m e ≡ false
+unknown-step g m e clear h =
+    is-not (isAllowed g m e) (λ ok.
+    let n : Named g e = allowed-named g m e ok in
+    let b : Counted (g .steps) (g .people) (g .roles) = clear-counts g clear in
+    let w : ⊥ = omega arith in w)
+
+-- the role is one that the person holds and the step has
+pub without-role : (g : Graph) (m : Marking) (e : Entry) → has (meet (rolesHeld g (e .person)) (rolesOf g (e .step .0))) (e .role) ≡ false → isAllowed g m e ≡ false
+without-role g m e out =
+    is-not (isAllowed g m e) (λ ok.
+    let p = has (rolesHeld g (e .person)) (e .role) in
+    let s = has (rolesOf g (e .step .0)) (e .role) in
+    let rest : (p && (s && (isIncluded m e && noneWaits g m e))) ≡ true = and-right (known g e) _ (sym (allowed-parts g m e) ∙ ok) in
+    true≢false (sym (and-intro (and-left p _ rest) (and-left s _ (and-right p _ rest))) ∙ sym (has-meet (rolesHeld g (e .person)) (rolesOf g (e .step .0)) (e .role)) ∙ out))
+
+pub not-included : (g : Graph) (m : Marking) (e : Entry) → isIncluded m e ≡ false → isAllowed g m e ≡ false
+not-included g m e out =
+    is-not (isAllowed g m e) (λ ok.
+    let p = has (rolesHeld g (e .person)) (e .role) in
+    let s = has (rolesOf g (e .step .0)) (e .role) in
+    let rest : (p && (s && (isIncluded m e && noneWaits g m e))) ≡ true = and-right (known g e) _ (sym (allowed-parts g m e) ∙ ok) in
+    true≢false (sym (and-left (isIncluded m e) _ (and-right s _ (and-right p _ rest))) ∙ out))
+
+-- nothing is stored beyond the counts
+keeps-beyond : (count limit : ℕ) (table : List ℕ) → keeps count limit table ≡ true → (i : ℕ) → count ≤ i → row table i ≡ 0
+unfolding keeps
+keeps-beyond count limit table e i h = go (decLt i (length table))
+  where
+    go : Dec (i < length table) → row table i ≡ 0
+    go (yes l) =
+        let here : row table i < 2 ^ cond (ltb i count) limit 0 = ltb-true (row table i) (2 ^ cond (ltb i count) limit 0) (every-at (length table) (λ k. within (cond (ltb k count) limit 0) (row table k)) e i l) in
+        let bare : row table i < 2 ^ 0 = subst (λ (b : Bool). row table i < 2 ^ cond b limit 0) (le-ltb i count h) here in
+        omega arith
+    go (no l) = List·getD-eq-default table 0 (let z : length table ≤ i = omega arith in z)
+
+-- so an entry whose role is held and had names what there is, and only the marking is left to ask
+pub role-left : (g : Graph) (m : Marking) (e : Entry) → graphVerdict g ≡ Verdict.Clear
+    → has (meet (rolesHeld g (e .person)) (rolesOf g (e .step .0))) (e .role) ≡ true → isIncluded m e ≡ true
+    → isAllowed g m e ≡ noneWaits g m e
+unfolding setsFit
+role-left g m e clear both included =
+    allowed-parts g m e
+    ∙ ap (λ (b : Bool). b && (p && (s && (isIncluded m e && noneWaits g m e)))) named
+    ∙ ap (λ (b : Bool). b && (s && (isIncluded m e && noneWaits g m e))) held
+    ∙ ap (λ (b : Bool). b && (isIncluded m e && noneWaits g m e)) had
+    ∙ ap (λ (b : Bool). b && noneWaits g m e) included
+  where
+    p : Bool
+    p = has (rolesHeld g (e .person)) (e .role)
+
+    s : Bool
+    s = has (rolesOf g (e .step .0)) (e .role)
+
+    held : p ≡ true
+    held = and-left p s (sym (has-meet (rolesHeld g (e .person)) (rolesOf g (e .step .0)) (e .role)) ∙ both)
+
+    had : s ≡ true
+    had = and-right p s (sym (has-meet (rolesHeld g (e .person)) (rolesOf g (e .step .0)) (e .role)) ∙ both)
+
+    fit : rolesFit (g .steps) (g .people) (g .roles) (g .allows) (g .holds) ≡ true
+    fit = and-left (rolesFit (g .steps) (g .people) (g .roles) (g .allows) (g .holds)) _ (not-false (setsFit g) (clear-head _ _ (clear-tail _ _ clear)))
+
+    -- a set with a role in it is not empty
+    some : (x y : ℕ) → has x y ≡ true → x ≡ 0 → ⊥
+    some x y h z = true≢false (sym h ∙ ap (λ (t : ℕ). has t y) z ∙ has-zero y)
+
+    below : (i n : ℕ) → (n ≤ i → ⊥) → ltb i n ≡ true
+    below i n h = go (decLt i n)
+      where
+        go : Dec (i < n) → ltb i n ≡ true
+        go (yes l) = lt-ltb i n l
+        go (no l) = absurd (h (let z : n ≤ i = omega arith in z))
+
+    named : known g e ≡ true
+    named =
+        and-intro
+        (and-intro
+        (below (e .person) (g .people) (λ h. some (rolesHeld g (e .person)) (e .role) held (keeps-beyond (g .people) (g .roles) (g .holds) (and-right (keeps (g .steps) (g .roles) (g .allows)) _ fit) (e .person) h)))
+        (below (e .step .0) (g .steps) (λ h. some (rolesOf g (e .step .0)) (e .role) had (keeps-beyond (g .steps) (g .roles) (g .allows) (and-left (keeps (g .steps) (g .roles) (g .allows)) _ fit) (e .step .0) h))))
+        (below (e .role) (g .roles) (λ h. true≢false (sym held ∙ has-above (g .roles) (rolesHeld g (e .person)) (e .role) (clear-sound g clear .rolesHeld-in (e .person)) h)))

@@ -1,0 +1,223 @@
+// What a run does with one entry, on a graph with nothing against it: an allowed entry meets five tests, and which refusal another one
+// meets is asked only then.
+ghost use mathlib.Core.Path.{_≡_};
+ghost use Prim.Native.Nat.{ℕ, _<_, _≤_};
+ghost use Rattle.sets.specs.Sets.{has};
+ghost use Rattle.rules.specs.declared.Verdict.{Verdict};
+ghost use Rattle.rules.specs.Graph.{lentGraph, graphVerdict};
+ghost use Rattle.rules.specs.Move.{rowOf, after, entryMove};
+ghost use Rattle.journal.specs.declared.Ran.{Ran};
+ghost use Rattle.journal.specs.Run.{goOn};
+ghost use Rattle.journal.specs.Allowed.{isAllowed};
+ghost use Rattle.journal.specs.Singles.{Singles};
+use crate::Ran;
+use rules::Entry;
+use rules::Marking;
+use rules::Move;
+use rules::inner::moved;
+use rules::inner::waits;
+use rules::lent::enter;
+use rules::lent::row_at;
+
+// The sets with one step each. A test by a look into this table is quicker than one by a shift, since the compiler shares a shift
+// with the move after the test and then does both in more instructions.
+pub const SINGLES: [u64; 64] = [
+    1,
+    2,
+    4,
+    8,
+    16,
+    32,
+    64,
+    128,
+    256,
+    512,
+    1024,
+    2048,
+    4096,
+    8192,
+    16384,
+    32768,
+    65536,
+    131072,
+    262144,
+    524288,
+    1048576,
+    2097152,
+    4194304,
+    8388608,
+    16777216,
+    33554432,
+    67108864,
+    134217728,
+    268435456,
+    536870912,
+    1073741824,
+    2147483648,
+    4294967296,
+    8589934592,
+    17179869184,
+    34359738368,
+    68719476736,
+    137438953472,
+    274877906944,
+    549755813888,
+    1099511627776,
+    2199023255552,
+    4398046511104,
+    8796093022208,
+    17592186044416,
+    35184372088832,
+    70368744177664,
+    140737488355328,
+    281474976710656,
+    562949953421312,
+    1125899906842624,
+    2251799813685248,
+    4503599627370496,
+    9007199254740992,
+    18014398509481984,
+    36028797018963968,
+    72057594037927936,
+    144115188075855872,
+    288230376151711744,
+    576460752303423488,
+    1152921504606846976,
+    2305843009213693952,
+    4611686018427387904,
+    9223372036854775808,
+];
+
+// Is role r in x?
+fn has_role(x: u16, r: u8) -> bool
+    requires { ⌜ r < 16 ⌝ }
+    ensures { λ b. ⌜ b ≡ has x r ⌝ }
+{
+    let y = x as u32;
+    let d = r as u32;
+    (y >> d) % 2 == 1
+}
+
+// Is the entry allowed? A person or role below 16 and a step below 64 that are not there have empty rows, so the counts are not asked.
+pub fn allowed<'a, 'b>(
+    singles: &'b [u64; 64],
+    steps: u8,
+    people: u8,
+    roles: u8,
+    allows: &'a [u16; 64],
+    holds: &'a [u16; 16],
+    conditions: &'a [u64; 64],
+    responses: &'a [u64; 64],
+    includes: &'a [u64; 64],
+    excludes: &'a [u64; 64],
+    m: Marking,
+    e: Entry,
+) -> bool
+    requires { ⌜ (graphVerdict (lentGraph steps people roles (now allows) (now holds) (now conditions) (now responses) (now includes) (now excludes)) ≡ Verdict.Clear) × Singles (now singles) ⌝ }
+    ensures { λ r. ⌜ r ≡ isAllowed (lentGraph steps people roles (now (allows .entry)) (now (holds .entry)) (now (conditions .entry)) (now (responses .entry)) (now (includes .entry)) (now (excludes .entry))) m e ⌝ }
+{
+    let p = e.person;
+    let s = e.step.0;
+    let r = e.role;
+    if 16 <= (p | r) {
+        return false;
+    }
+    if 64 <= s {
+        return false;
+    }
+    let w = row_at(
+        steps,
+        people,
+        roles,
+        allows,
+        holds,
+        conditions,
+        responses,
+        includes,
+        excludes,
+        p,
+        s,
+    );
+    if !has_role(w.held & w.allows, r) {
+        return false;
+    }
+    let i = s as usize;
+    if m.included & singles[i] == 0 {
+        return false;
+    }
+    waits(w.conditions, m) == 0
+}
+
+// The marking after an entry that is allowed.
+pub fn taken<'a>(
+    steps: u8,
+    people: u8,
+    roles: u8,
+    allows: &'a [u16; 64],
+    holds: &'a [u16; 16],
+    conditions: &'a [u64; 64],
+    responses: &'a [u64; 64],
+    includes: &'a [u64; 64],
+    excludes: &'a [u64; 64],
+    m: Marking,
+    e: Entry,
+) -> Marking
+    requires { ⌜ (e .person < 16) × (e .step .0 < 64) ⌝ }
+    ensures { λ r. ⌜ r ≡ after (rowOf (lentGraph steps people roles (now (allows .entry)) (now (holds .entry)) (now (conditions .entry)) (now (responses .entry)) (now (includes .entry)) (now (excludes .entry))) (e .person) (e .step .0)) m (e .step .0) ⌝ }
+{
+    let p = e.person;
+    let s = e.step.0;
+    moved(
+        row_at(
+            steps,
+            people,
+            roles,
+            allows,
+            holds,
+            conditions,
+            responses,
+            includes,
+            excludes,
+            p,
+            s,
+        ),
+        m,
+        s,
+    )
+}
+
+// Where a run stops at an entry that is not.
+pub fn refused<'a>(
+    steps: u8,
+    people: u8,
+    roles: u8,
+    allows: &'a [u16; 64],
+    holds: &'a [u16; 16],
+    conditions: &'a [u64; 64],
+    responses: &'a [u64; 64],
+    includes: &'a [u64; 64],
+    excludes: &'a [u64; 64],
+    m: Marking,
+    e: Entry,
+    index: u16,
+) -> Ran
+    requires { ⌜ (steps ≤ 64) × (people ≤ 16) × (roles ≤ 16) ⌝ }
+    ensures { λ r. ⌜ r ≡ goOn index m (entryMove (lentGraph steps people roles (now (allows .entry)) (now (holds .entry)) (now (conditions .entry)) (now (responses .entry)) (now (includes .entry)) (now (excludes .entry))) m e) (λ next. Ran.Ended next index) ⌝ }
+{
+    match enter(
+        steps,
+        people,
+        roles,
+        allows,
+        holds,
+        conditions,
+        responses,
+        includes,
+        excludes,
+        m,
+        e,
+    ) {
+        Move::Moved(next) => Ran::Ended(next, index),
+        Move::Refused(r, _) => Ran::Stopped(index, r, m),
+    }
+}

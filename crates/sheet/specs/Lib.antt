@@ -1,0 +1,6 @@
+pub mod Sheet
+pub mod Judge
+pub mod Answer
+pub mod Write
+pub mod More
+pub mod Content
