@@ -1,4 +1,3 @@
-pub mod More
 pub mod Arrows
 pub mod Lists
 pub mod Places

@@ -14,9 +14,8 @@ use lib.Count.{ones, ones-step}
 use lib.Pow.{pow-mono}
 use borrow.Author.Tests.{lt-ltb, le-ltb, eq-eqb, ne-eqb, eqb-true}
 use Rattle.sets.specs.Sets.{has, single, minus, lowest}
-use Rattle.sets.specs.Laws.{Least, lowest-least, lowest-has, has-minus, has-single, has-zero, has-above, ext}
+use Rattle.sets.specs.Laws.{Least, lowest-least, lowest-has, has-minus, has-single, has-zero, has-above, ext, has-half, has-low}
 use Rattle.rules.specs.Graph.{row}
-use Rattle.arrows.specs.More.{has-half, has-lowest}
 use Rattle.arrows.specs.Arrows.{Arrow, spelt, rowAt, columnAt, put, putAll, held, place, arrowAt, listed, keptIf, arrowsOf, pick, fourTables}
 use Rattle.arrows.specs.Lists.{member, listed-same, listed-add, listed-none, listed-first, member-listed}
 use Rattle.arrows.specs.Places.{Ranged, length-spelt, spelt-append, place-arrowAt}
@@ -75,7 +74,7 @@ count-digits : (k x : ℕ) → x < 2 ^ k → length (listed k 0 (has x)) ≡ one
 unfolding listed ones
 count-digits zero x small = sym (ap ones (let z : x ≡ 0 = omega arith in z))
 count-digits (suc k) x small =
-    ap (λ (b : Bool). length (keptIf b 0 (listed k 1 (has x)))) (has-lowest x)
+    ap (λ (b : Bool). length (keptIf b 0 (listed k 1 (has x)))) (has-low x (x % 2) refl)
     ∙ go (x % 2) refl
     ∙ ap (λ (y : ℕ). x % 2 + y) (listed-shift k 0 (has x) (has (x / 2)) (has-half x) ∙ count-digits k (x / 2) (let p : 2 ^ suc k ≡ 2 ^ k + 2 ^ k = two-pow-succ k in omega arith))
     ∙ sym (ones-step x)

@@ -12,6 +12,7 @@ use lib.Dec.{ltb}
 use borrow.Author.Tests.{ltb-true, eqb-true, eq-eqb}
 use Rattle.sets.specs.Sets.{has, single, union, meet, minus, empty, subset}
 use Rattle.sets.specs.Laws.{and-left, and-right, same-truth, has-single, subset-members, members-subset, single-lt, minus-lt}
+use Rattle.sets.specs.Digits.{at-digit, as-sets}
 use Rattle.rules.specs.declared.Graph.{Graph}
 use Rattle.rules.specs.declared.inner.Row.{Row}
 use Rattle.rules.specs.declared.Marking.{Marking}
@@ -33,8 +34,7 @@ use Rattle.records.specs.WellFormed.{Bounded, WellFormed, compose-bounded, iden
 use Rattle.records.specs.Unique.{unique}
 use Rattle.records.specs.Theorems.{then-none, then-again, then-same, join-assoc, join-identity-left}
 use Rattle.folding.specs.Fold.{rowAt, stepRecord, possible, entryRecord, foldOf, movedTo, passes, afterAll, effect}
-use Rattle.folding.specs.More.{possible-serves}
-use Rattle.records.specs.More.{at-digit, as-sets}
+use Rattle.folding.specs.Possible.{possible-serves}
 
 -- ---- one entry
 

@@ -1,5 +1,5 @@
 pub mod Fold
-pub mod More
+pub mod Possible
 pub mod Answers
 pub mod Laws
 pub mod Answered

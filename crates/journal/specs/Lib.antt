@@ -2,7 +2,6 @@ pub mod Journal
 pub mod Run
 pub mod Walk
 pub mod Laws
-pub mod More
 pub mod Allowed
 pub mod Singles
 pub mod Runs

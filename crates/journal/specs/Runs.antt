@@ -19,13 +19,13 @@ use Rattle.rules.specs.declared.Move.{Move}
 use Rattle.rules.specs.First.{first, numberOf}
 use Rattle.rules.specs.Graph.{graphLines, graphVerdict}
 use Rattle.rules.specs.Move.{entryMove, markingFits, markingLines, noMarking}
-use Rattle.rules.specs.Laws.{numbersBelow, first-below, clear-head, clear-tail}
+use Rattle.rules.specs.Laws.{numbersBelow, first-below, clear-head, clear-tail, clear-front, clear-back}
 use Rattle.rules.specs.Sound.{Sound, Inside, clear-sound, fits-inside, inside-fits}
+use Rattle.rules.specs.Entries.{entry-back, entry-inside}
 use Rattle.journal.specs.declared.Ran.{Ran}
 use Rattle.journal.specs.Journal.{entries, lengthFits}
 use Rattle.journal.specs.Run.{goOn, runOn, lengthLines, runLines, runOf, theRun, markingOfRun}
 use Rattle.journal.specs.Laws.{fits-threes, fits-most, entries-append, run-graph, run-outside, run-inside}
-use Rattle.journal.specs.More.{clear-front, clear-back, entry-back, entry-inside}
 
 -- ---- one after the other
 

@@ -8,6 +8,7 @@ use mathlib.Core.Bool.{Bool, true, cond, true≢false}
 use native.Mathlib.Nat.{le-refl}
 use native.Mathlib.Omega.{arith}
 use native.Mathlib.Decide.{decLt}
+use borrow.Author.Tests.{le-leb}
 use Rattle.rules.specs.declared.Graph.{Graph}
 use Rattle.rules.specs.declared.Marking.{Marking}
 use Rattle.rules.specs.declared.Entry.{Entry}
@@ -17,15 +18,13 @@ use Rattle.rules.specs.declared.Verdict.{Verdict}
 use Rattle.rules.specs.declared.Move.{Move}
 use Rattle.rules.specs.First.{first, numberOf}
 use Rattle.rules.specs.Move.{entryLines, moveOf, entryMove, noMarking}
-use Rattle.rules.specs.Laws.{ascends}
+use Rattle.rules.specs.Laws.{ascends, clear-refused, first-above}
 use Rattle.journal.specs.Journal.{entries}
-use Rattle.journal.specs.More.{numbersFrom, first-from}
 use Rattle.laps.specs.declared.Lapped.{Lapped}
 use Rattle.laps.specs.declared.Pass.{Pass}
 use Rattle.laps.specs.Endless.{markingAt, verdictAt, DoneAt, ExcludedAt, RefusedAt, GoesOn, Accepting, Starving, Starves}
 use Rattle.laps.specs.Laps.{runOf, indexAt, passAt, numberOfPass, lapLines, Stops, LapAnswer}
 use Rattle.laps.specs.Decision.{decision, lapOf, theLap}
-use Rattle.laps.specs.More.{not-both}
 use Rattle.laps.specs.Places.{never-later}
 use Rattle.laps.specs.Right.{some, decision-right}
 
@@ -38,18 +37,18 @@ module _ (g : Graph) (m : Marking) (e : ℕ → Entry) where
   run-moves i q = ap (λ (v : Verdict). moveOf v (markingAt g m e i) (markingAt g m e (suc i))) q
 
   pub run-refuses : (i : ℕ) (r : Refusal) → verdictAt g m e i ≡ Verdict.Refused r → entryMove g (markingAt g m e i) (e i) ≡ Move.Refused r (markingAt g m e i)
-  unfolding entryMove moveOf markingAt numbersFrom numberOf
+  unfolding entryMove moveOf markingAt ascends numberOf
   run-refuses i r q =
       ap (λ (v : Verdict). moveOf v (markingAt g m e i) (markingAt g m e (suc i))) q
-      ∙ ap (λ (b : Bool). Move.Refused r (cond b (markingAt g m e i) noMarking)) (first-from 11 (entryLines g (markingAt g m e i) (e i)) r refl q)
+      ∙ ap (λ (b : Bool). Move.Refused r (cond b (markingAt g m e i) noMarking)) (le-leb 11 (numberOf r) (let h : 10 < numberOf r = first-above 10 (entryLines g (markingAt g m e i) (e i)) r refl q in omega arith))
 
   -- the first entry not allowed is one
   one-position : (i j : ℕ) (r q : Refusal) → RefusedAt g m e i r → RefusedAt g m e j q → (i ≡ j) × (r ≡ q)
   one-position i j r q a b = go (decLt i j) (decLt j i)
     where
       go : Dec (i < j) → Dec (j < i) → (i ≡ j) × (r ≡ q)
-      go (yes h) d = not-both (verdictAt g m e i) r (b .before i h) (a .here)
-      go (no h) (yes k) = not-both (verdictAt g m e j) q (a .before j k) (b .here)
+      go (yes h) d = clear-refused (verdictAt g m e i) r (b .before i h) (a .here)
+      go (no h) (yes k) = clear-refused (verdictAt g m e j) q (a .before j k) (b .here)
       go (no h) (no k) =
           let same : i ≡ j = omega arith in
           let both : Verdict.Refused r ≡ Verdict.Refused q = sym (a .here) ∙ ap (verdictAt g m e) same ∙ b .here in
@@ -127,24 +126,24 @@ module _ (g : Graph) (m : Marking) (stem lap : List ℕ) where
 
   -- a run that goes on is not refused
   on-or-stopped : {A : Type 0} (k : ℕ) (p : Pass) (r : Refusal) → GoesOn g m e → Stops g m S L k p r → A
-  on-or-stopped k p r on s = not-both (verdictAt g m e (s .position)) r (on (s .position)) (s .refused .here)
+  on-or-stopped k p r on s = clear-refused (verdictAt g m e (s .position)) r (on (s .position)) (s .refused .here)
 
   -- any two answers are equal
   pub one-answer : (r q : Lapped) → LapAnswer g m stem lap r → LapAnswer g m stem lap q → r ≡ q
   unfolding LapAnswer
   one-answer (Lapped.Refused r) (Lapped.Refused q) a b = let both : Verdict.Refused r ≡ Verdict.Refused q = sym a ∙ b in cc
-  one-answer (Lapped.Refused r) (Lapped.Stopped k p q) a b = not-both _ r (b .0) a
-  one-answer (Lapped.Refused r) Lapped.Accepted a b = not-both _ r (b .0) a
-  one-answer (Lapped.Refused r) (Lapped.Starved s) a b = not-both _ r (b .0) a
-  one-answer (Lapped.Stopped k p r) (Lapped.Refused q) a b = not-both _ q (a .0) b
+  one-answer (Lapped.Refused r) (Lapped.Stopped k p q) a b = clear-refused _ r (b .0) a
+  one-answer (Lapped.Refused r) Lapped.Accepted a b = clear-refused _ r (b .0) a
+  one-answer (Lapped.Refused r) (Lapped.Starved s) a b = clear-refused _ r (b .0) a
+  one-answer (Lapped.Stopped k p r) (Lapped.Refused q) a b = clear-refused _ q (a .0) b
   one-answer (Lapped.Stopped k p r) (Lapped.Stopped j q t) a b = one-stop k j p q r t (a .1) (b .1)
   one-answer (Lapped.Stopped k p r) Lapped.Accepted a b = on-or-stopped k p r (b .1) (a .1)
   one-answer (Lapped.Stopped k p r) (Lapped.Starved s) a b = on-or-stopped k p r (b .1) (a .1)
-  one-answer Lapped.Accepted (Lapped.Refused q) a b = not-both _ q (a .0) b
+  one-answer Lapped.Accepted (Lapped.Refused q) a b = clear-refused _ q (a .0) b
   one-answer Lapped.Accepted (Lapped.Stopped k p r) a b = on-or-stopped k p r (a .1) (b .1)
   one-answer Lapped.Accepted Lapped.Accepted a b = refl
   one-answer Lapped.Accepted (Lapped.Starved s) a b = absurd (accepting-starving g m e (s .0) (a .2) (b .2 .starving))
-  one-answer (Lapped.Starved s) (Lapped.Refused q) a b = not-both _ q (a .0) b
+  one-answer (Lapped.Starved s) (Lapped.Refused q) a b = clear-refused _ q (a .0) b
   one-answer (Lapped.Starved s) (Lapped.Stopped k p r) a b = on-or-stopped k p r (a .1) (b .1)
   one-answer (Lapped.Starved s) Lapped.Accepted a b = absurd (accepting-starving g m e (s .0) (b .2) (a .2 .starving))
   one-answer (Lapped.Starved s) (Lapped.Starved t) a b = one-starved g m e s t (a .2) (b .2)
@@ -186,7 +185,7 @@ module _ (g : Graph) (m : Marking) (stem lap : List ℕ) where
       }
     where
       go : (o : Lapped) → LapAnswer g m stem lap o → IsRefused ⊎ (IsAccepted ⊎ IsStarved)
-      go (Lapped.Refused r) a = not-both _ r clear a
+      go (Lapped.Refused r) a = clear-refused _ r clear a
       go (Lapped.Stopped k p r) a = inl (k, p, r, a .1)
       go Lapped.Accepted a = inr (inl (a .1, a .2))
       go (Lapped.Starved s) a = inr (inr (a .1, (s .0, a .2 .starving)))

@@ -1,7 +1,6 @@
 pub mod Endless
 pub mod Laps
 pub mod Decision
-pub mod More
 pub mod Legs
 pub mod Repeats
 pub mod Places

@@ -17,18 +17,17 @@ use Rattle.rules.specs.declared.Verdict.{Verdict}
 use Rattle.rules.specs.First.{first}
 use Rattle.rules.specs.Graph.{graphLines}
 use Rattle.rules.specs.Move.{known, markingFits, markingLines}
-use Rattle.rules.specs.Laws.{clear-head, clear-tail}
+use Rattle.rules.specs.Laws.{clear-head, clear-tail, clear-front, clear-back}
 use Rattle.rules.specs.Sound.{Sound, Inside, clear-sound, fits-inside, after-inside}
+use Rattle.rules.specs.Entries.{known-step}
 use Rattle.journal.specs.Journal.{entries, lengthFits}
 use Rattle.journal.specs.Laws.{fits-threes, entries-length}
-use Rattle.journal.specs.More.{clear-front, clear-back}
 use Rattle.laps.specs.declared.Lapped.{Lapped}
 use Rattle.laps.specs.declared.Pass.{Pass}
 use Rattle.laps.specs.declared.lent.Leg.{Leg}
 use Rattle.laps.specs.Endless.{stepAt, markingAt, verdictAt, DueAt, GoesOn}
 use Rattle.laps.specs.Laps.{runOf, indexAt, passAt, numberOfPass, lengthsLines, emptyLines, lapLines, LapAnswer}
 use Rattle.laps.specs.Decision.{legOf, upon, judged, secondLap, firstLap, decision}
-use Rattle.laps.specs.More.{known-step}
 use Rattle.laps.specs.Legs.{Kept, Passed, Barred, leg-tells}
 use Rattle.laps.specs.Repeats.{Decides}
 use Rattle.laps.specs.Places.{in-stem, in-lap, pass-first, pass-second, stem-stands, lap-stands, lap-stands-again, twice-for-ever, second-decides}

@@ -19,14 +19,13 @@ use Rattle.rules.specs.First.{first}
 use Rattle.rules.specs.Graph.{graphLines, graphVerdict}
 use Rattle.rules.specs.Move.{entryMove, markingFits, markingLines}
 use Rattle.rules.specs.Laws.{first-clear, first-refused}
+use Rattle.rules.specs.Entries.{entry-after, known-step}
 use Rattle.journal.specs.Journal.{entries, entryAt, lengthFits}
 use Rattle.journal.specs.Laws.{entries-from}
-use Rattle.journal.specs.More.{entry-after}
 use Rattle.laps.specs.declared.Lapped.{Lapped}
 use Rattle.laps.specs.declared.Pass.{Pass}
 use Rattle.laps.specs.declared.lent.Leg.{Leg}
 use Rattle.laps.specs.Laps.{lengthsLines, emptyLines, lapLines}
-use Rattle.laps.specs.More.{known-step}
 use Rattle.laps.specs.Decision.{still, goOn, legOn, upon}
 
 -- ---- a leg, entry by entry

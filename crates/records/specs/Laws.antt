@@ -10,10 +10,10 @@ use lib.Bits.{or-zero-r}
 use borrow.Author.Tests.{eqb-true}
 use Rattle.sets.specs.Sets.{union, meet, minus, empty, subset}
 use Rattle.sets.specs.Laws.{empty-union, and-right, minus-zero}
+use Rattle.sets.specs.Digits.{at-digit, as-sets, by-digits}
 use Rattle.rules.specs.declared.Marking.{Marking}
 use Rattle.records.specs.declared.Record.{Record}
 use Rattle.records.specs.Records.{applies, gives, acts, compose, sorted, tidy, impossible, join, identity}
-use Rattle.records.specs.More.{at-digit, as-sets, by-digits}
 
 -- ---- what a marking lacks
 

@@ -1,4 +1,3 @@
-pub mod More
 pub mod Records
 pub mod Answers
 pub mod Bytes

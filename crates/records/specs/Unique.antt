@@ -11,13 +11,13 @@ use lib.Pow.{pow-pos}
 use borrow.Author.Tests.{eqb-true, eq-eqb, lt-ltb}
 use Rattle.sets.specs.Sets.{union, meet, minus, empty, full}
 use Rattle.sets.specs.Laws.{union-lt, minus-lt, full-lt, subset-full, minus-zero}
+use Rattle.sets.specs.Digits.{at-digit, as-sets, by-digits}
 use Rattle.rules.specs.declared.Marking.{Marking}
 use Rattle.rules.specs.Sound.{Inside}
 use Rattle.records.specs.declared.Record.{Record}
 use Rattle.records.specs.Records.{applies, gives, acts, impossible}
 use Rattle.records.specs.Laws.{lacks, applies-lacks, applies-none, applies-never, acts-some}
 use Rattle.records.specs.WellFormed.{Bounded, WellFormed}
-use Rattle.records.specs.More.{at-digit, as-sets, by-digits}
 
 -- ---- sets that are told by what is made of them
 

@@ -12,12 +12,12 @@ use lib.Pow.{pow-pos}
 use borrow.Author.Tests.{eqb-true, eq-eqb, ltb-true, lt-ltb}
 use Rattle.sets.specs.Sets.{union, meet, minus, empty, subset, within, full}
 use Rattle.sets.specs.Laws.{and-left, and-right, and-intro, union-lt, meet-lt, minus-lt, within-full, within-union, empty-union}
+use Rattle.sets.specs.Digits.{at-digit, as-sets, by-digits}
 use Rattle.rules.specs.declared.Marking.{Marking}
 use Rattle.rules.specs.Sound.{Inside}
 use Rattle.records.specs.declared.Record.{Record}
 use Rattle.records.specs.Records.{applies, gives, acts, setsOf, clashes, each, wellFormed, compose, sorted, tidy, impossible, join, identity}
 use Rattle.records.specs.Laws.{lacks, applies-lacks, applies-none}
-use Rattle.records.specs.More.{at-digit, as-sets, by-digits}
 
 -- ---- well-formed, set by set
 

@@ -4,7 +4,7 @@ use Prim.Native.Nat.{ℕ, zero, suc, _+_, _^_, _≤_, _<_, zero-le}
 use mathlib.Core.Path.{_≡_, refl, sym, ap, ap₂, _∙_, subst}
 use mathlib.Core.List.{List, [], _∷_, _++_}
 use mathlib.Core.Bool.{Bool, true, false, not, _&&_, _||_, cond, true≢false, false≢true}
-use native.Mathlib.Nat.{lt-of-lt-of-le}
+use native.Mathlib.Nat.{lt-of-lt-of-le, lt-trans}
 use native.Mathlib.Omega.{arith}
 use native.Mathlib.Decide.{decLt}
 use lib.ListN.{length}
@@ -59,6 +59,21 @@ pub clear-tail : (l : Line) (a : List Line) → first (l ∷ a) ≡ Verdict.Clea
 unfolding first
 clear-tail l a e = ap (λ (h : Bool). cond h (Verdict.Refused (l .0)) (first a)) (sym (clear-head l a e)) ∙ e
 
+-- where nothing in two tables holds, nothing in either does
+pub clear-front : (a b : List Line) → first (a ++ b) ≡ Verdict.Clear → first a ≡ Verdict.Clear
+clear-front a b e = go (first a) refl
+  where
+    go : (v : Verdict) → first a ≡ v → first a ≡ Verdict.Clear
+    go Verdict.Clear p = p
+    go (Verdict.Refused r) p = absurd (let s : Verdict.Refused r ≡ Verdict.Clear = sym (first-refused a b r p) ∙ e in let z : _≡_ {A = ℕ} 0 1 = cc in let w : ⊥ = omega arith in w)
+
+pub clear-back : (a b : List Line) → first (a ++ b) ≡ Verdict.Clear → first b ≡ Verdict.Clear
+clear-back a b e = sym (first-clear a b (clear-front a b e)) ∙ e
+
+-- what is clear is not refused
+pub clear-refused : {A : Type 0} (v : Verdict) (r : Refusal) → v ≡ Verdict.Clear → v ≡ Verdict.Refused r → A
+clear-refused v r p q = absurd (let z : _≡_ {A = ℕ} 0 1 = cc in let w : ⊥ = omega arith in w)
+
 -- every number of the table is below k
 unfoldable pub numbersBelow : ℕ → List Line → Bool
 numbersBelow k [] = true
@@ -86,6 +101,19 @@ holds k (l ∷ rest) = (eqb (numberOf (l .0)) k && l .1) || holds k rest
 unfoldable pub ascends : ℕ → List Line → Bool
 ascends k [] = true
 ascends k (l ∷ rest) = ltb k (numberOf (l .0)) && ascends (numberOf (l .0)) rest
+
+-- the number given lies above where its table starts
+pub first-above : (k : ℕ) (a : List Line) (r : Refusal) → ascends k a ≡ true → first a ≡ Verdict.Refused r → k < numberOf r
+unfolding first ascends
+first-above k [] r h e = absurd (let z : _≡_ {A = ℕ} 0 1 = cc in let w : ⊥ = omega arith in w)
+first-above k (l ∷ a) r h e = go (l .1) refl (first-above (numberOf (l .0)) a r (and-right (ltb k (numberOf (l .0))) (ascends (numberOf (l .0)) a) h))
+  where
+    here : k < numberOf (l .0)
+    here = ltb-true k (numberOf (l .0)) (and-left (ltb k (numberOf (l .0))) (ascends (numberOf (l .0)) a) h)
+
+    go : (b : Bool) → l .1 ≡ b → (first a ≡ Verdict.Refused r → numberOf (l .0) < numberOf r) → k < numberOf r
+    go true p rest = let same : l .0 ≡ r = cc in subst (λ (q : Refusal). k < numberOf q) same here
+    go false p rest = lt-trans here (rest (ap (λ (h : Bool). cond h (Verdict.Refused (l .0)) (first a)) (sym p) ∙ e))
 
 or-right : (a b : Bool) → b ≡ true → (a || b) ≡ true
 or-right true b e = refl

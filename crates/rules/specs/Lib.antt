@@ -3,4 +3,5 @@ pub mod Graph
 pub mod Move
 pub mod Laws
 pub mod Sound
+pub mod Entries
 pub mod Paper

@@ -19,7 +19,8 @@ use Rattle.rules.specs.declared.Move.{Move}
 use Rattle.rules.specs.First.{first, number, numberOf}
 use Rattle.rules.specs.Graph.{graphLines, graphVerdict, conditionsOf, responsesOf, includesOf, excludesOf, rolesOf, rolesHeld}
 use Rattle.rules.specs.Move.{theMove, moveOn, moveOf, entryMove, moveLines, entryLines, markingLines, rowLines, known, after, rowOf, waitsFor, isFinished, markingFits, noMarking}
-use Rattle.rules.specs.Laws.{ascends, holds, first-holds, first-lowest, clear-head, clear-tail, first-clear}
+use Rattle.rules.specs.Laws.{ascends, holds, first-holds, first-lowest, clear-head, clear-tail, clear-front, first-clear}
+use Rattle.rules.specs.Entries.{moved-clear, moved-after}
 
 -- ---- Definition 3: the relations
 
@@ -99,28 +100,12 @@ pub record Ready (g : Graph) (m : Marking) (e : Entry) : Type 0 where
   pub marking : markingFits (g .steps) m ≡ true
   pub names : known g e ≡ true
 
-moved-clear : (v : Verdict) (m next x : Marking) → moveOf v m next ≡ Move.Moved x → v ≡ Verdict.Clear
-unfolding moveOf
-moved-clear Verdict.Clear m next x e = refl
-moved-clear (Verdict.Refused r) m next x e = absurd (let z : _≡_ {A = ℕ} 0 1 = cc in let w : ⊥ = omega arith in w)
-
-split-clear : (a b : List (Refusal × Bool)) → first (a ++ b) ≡ Verdict.Clear → first a ≡ Verdict.Clear
-unfolding first
-split-clear [] b e = refl
-split-clear (l ∷ a) b e = go (l .1) refl (split-clear a b)
-  where
-    go : (h : Bool) → l .1 ≡ h → (first (a ++ b) ≡ Verdict.Clear → first a ≡ Verdict.Clear) → cond (l .1) (Verdict.Refused (l .0)) (first a) ≡ Verdict.Clear
-    go true p rest = absurd (true≢false (sym p ∙ clear-head l (a ++ b) e))
-    go false p rest = ap (λ (h : Bool). cond h (Verdict.Refused (l .0)) (first a)) p ∙ rest (clear-tail l (a ++ b) e)
-
 -- Definition 4 (i) to (vi) with Definition 5, from left to right: a step taken was allowed, and leads to the marking after
 pub moved-allowed : (g : Graph) (m x : Marking) (e : Entry) → theMove g m e ≡ Move.Moved x
     → Ready g m e × Allowed g m e × (x ≡ after (rowOf g (e .person) (e .step .0)) m (e .step .0))
-unfolding theMove moveOf
 moved-allowed g m x e q =
-    let w = after (rowOf g (e .person) (e .step .0)) m (e .step .0) in
-    let c : first (moveLines g m e) ≡ Verdict.Clear = moved-clear (first (moveLines g m e)) m w x q in
-    let graph : graphVerdict g ≡ Verdict.Clear = split-clear (graphLines g) (markingLines g m ++ entryLines g m e) c in
+    let c : first (moveLines g m e) ≡ Verdict.Clear = moved-clear g m x e q in
+    let graph : graphVerdict g ≡ Verdict.Clear = clear-front (graphLines g) (markingLines g m ++ entryLines g m e) c in
     let rest : first (markingLines g m ++ entryLines g m e) ≡ Verdict.Clear = sym (first-clear (graphLines g) (markingLines g m ++ entryLines g m e) graph) ∙ c in
     let entry : first (entryLines g m e) ≡ Verdict.Clear = clear-tail _ _ rest in (
       record {
@@ -129,7 +114,7 @@ moved-allowed g m x e q =
         names = not-false (known g e) (clear-head _ _ entry);
       },
       lines-allowed g m e (clear-tail _ _ entry),
-      (let is : Move.Moved w ≡ Move.Moved x = sym (ap (λ (v : Verdict). moveOf v m w) c) ∙ q in cc),
+      sym (moved-after g m x e q),
     )
 
 -- and from right to left: what is allowed is taken

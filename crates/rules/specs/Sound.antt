@@ -1,18 +1,18 @@
 -- What a graph with nothing against it is like, fact by fact, for the floors above; and that a step keeps a marking within the graph.
 -- Assumes nothing.
 use Prim.Native.Nat.{ℕ, _^_, _<_, _≤_}
-use mathlib.Core.Path.{_≡_, sym, ap, _∙_}
+use mathlib.Core.Path.{_≡_, sym, ap, _∙_, subst}
 use mathlib.Core.List.{List}
-use mathlib.Core.Bool.{Bool, true, false, not, _&&_, cond}
+use mathlib.Core.Bool.{Bool, true, false, not, _&&_, cond, true≢false}
 use native.Mathlib.Nat.{lt-of-lt-of-le, lt-of-le-of-lt}
 use native.Mathlib.Omega.{arith}
 use native.Mathlib.Decide.{decLt}
 use lib.ListN.{length, List·getD-eq-default}
 use lib.Dec.{ltb, leb}
 use lib.Pow.{pow-pos, pow-mono}
-use borrow.Author.Tests.{ltb-true, lt-ltb, not-false}
+use borrow.Author.Tests.{ltb-true, lt-ltb, le-ltb, not-false}
 use Rattle.sets.specs.Sets.{has, single, union, meet, minus, empty, within, every}
-use Rattle.sets.specs.Laws.{and-left, and-right, and-intro, every-at, empty-members, has-meet, union-lt, minus-lt, single-lt}
+use Rattle.sets.specs.Laws.{and-left, and-right, and-intro, every-at, empty-members, has-meet, has-zero, union-lt, minus-lt, single-lt}
 use Rattle.rules.specs.declared.Graph.{Graph}
 use Rattle.rules.specs.declared.inner.Row.{Row}
 use Rattle.rules.specs.declared.Marking.{Marking}
@@ -36,6 +36,26 @@ keeps-row count limit table e i = go (decLt i (length table))
         (ltb-true (row table i) (2 ^ cond (ltb i count) limit 0) (every-at (length table) (λ k. within (cond (ltb k count) limit 0) (row table k)) e i h))
         (pow-mono (low (ltb i count)))
     go (no h) = lt-of-le-of-lt (let z : row table i ≤ 0 = omega (arith, List·getD-eq-default table 0 {n = i} (let w : length table ≤ i = omega arith in w)) in z) (pow-pos limit)
+
+-- a table that keeps to its counts has nothing at or beyond them
+pub keeps-gone : (count limit : ℕ) (table : List ℕ) → keeps count limit table ≡ true → (i : ℕ) → count ≤ i → row table i ≡ 0
+unfolding keeps
+keeps-gone count limit table e i h = go (decLt i (length table))
+  where
+    go : Dec (i < length table) → row table i ≡ 0
+    go (yes l) =
+        let small : row table i < 1 =
+        ltb-true (row table i) 1 (subst (λ (b : Bool). within (cond b limit 0) (row table i) ≡ true) (le-ltb i count h) (every-at (length table) (λ k. within (cond (ltb k count) limit 0) (row table k)) e i l)) in
+        omega arith
+    go (no l) = List·getD-eq-default table 0 {n = i} (let z : length table ≤ i = omega arith in z)
+
+-- a row with a member is not beyond the counts
+pub named-below : (count limit : ℕ) (table : List ℕ) → keeps count limit table ≡ true → (i s : ℕ) → has (row table i) s ≡ true → i < count
+named-below count limit table e i s h = go (decLt i count)
+  where
+    go : Dec (i < count) → i < count
+    go (yes l) = l
+    go (no l) = absurd (true≢false (sym h ∙ ap (λ (x : ℕ). has x s) (keeps-gone count limit table e i (omega arith)) ∙ has-zero s))
 
 -- a graph as document 01 has it
 pub record Sound (g : Graph) : Type 0 where

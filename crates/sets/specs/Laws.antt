@@ -41,13 +41,25 @@ and-exchange true false true d = refl
 and-exchange true false false d = refl
 and-exchange false b c d = refl
 
+pub or-false : (a : Bool) → (a || false) ≡ a
+or-false true = refl
+or-false false = refl
+
+pub and-false : (a : Bool) → (a && false) ≡ false
+and-false true = refl
+and-false false = refl
+
+pub and-true : (a : Bool) → (a && true) ≡ a
+and-true true = refl
+and-true false = refl
+
 -- ---- digits
 
 -- digit s of x
-abbrev bit : ℕ → ℕ → ℕ
+abbrev pub bit : ℕ → ℕ → ℕ
 bit x s = x / 2 ^ s % 2
 
-bit-lt : (x s : ℕ) → bit x s < 2
+pub bit-lt : (x s : ℕ) → bit x s < 2
 bit-lt x s = mod-lt (x / 2 ^ s) (zero-le-suc 1)
   where
     zero-le-suc : (n : ℕ) → 0 < suc n
@@ -63,13 +75,13 @@ on-digits P p q r s zero (suc (suc y)) h k = absurd (let z : ⊥ = omega arith i
 on-digits P p q r s (suc zero) (suc (suc y)) h k = absurd (let z : ⊥ = omega arith in z)
 on-digits P p q r s (suc (suc x)) y h k = absurd (let z : ⊥ = omega arith in z)
 
-bit-union : (a b s : ℕ) → bit (union a b) s ≡ union (bit a s) (bit b s)
+pub bit-union : (a b s : ℕ) → bit (union a b) s ≡ union (bit a s) (bit b s)
 bit-union a b s = ap (λ (x : ℕ). x % 2) (or-shr a b s) ∙ or-mod (a / 2 ^ s) (b / 2 ^ s) 1
 
-bit-meet : (a b s : ℕ) → bit (meet a b) s ≡ meet (bit a s) (bit b s)
+pub bit-meet : (a b s : ℕ) → bit (meet a b) s ≡ meet (bit a s) (bit b s)
 bit-meet a b s = ap (λ (x : ℕ). x % 2) (and-shr a b s) ∙ and-mod (a / 2 ^ s) (b / 2 ^ s) 1
 
-bit-xor : (a b s : ℕ) → bit (bitXor a b) s ≡ bitXor (bit a s) (bit b s)
+pub bit-xor : (a b s : ℕ) → bit (bitXor a b) s ≡ bitXor (bit a s) (bit b s)
 bit-xor a b s = ap (λ (x : ℕ). x % 2) (xor-shr a b s) ∙ xor-mod (a / 2 ^ s) (b / 2 ^ s) 1
 
 bit-minus : (a b s : ℕ) → bit (minus a b) s ≡ minus (bit a s) (bit b s)
@@ -193,6 +205,14 @@ within-full n x =
 pub has-above : (n x s : ℕ) → x < 2 ^ n → n ≤ s → has x s ≡ false
 unfolding has
 has-above n x s h l = ap (λ (y : ℕ). eqb (y % 2) 1) (div-eq-of-lt (lt-of-lt-of-le h (pow-mono l)))
+
+-- a member of a set of steps below n is below n
+pub member-below : (n x s : ℕ) → x < 2 ^ n → has x s ≡ true → s < n
+member-below n x s b h = go (decLt s n)
+  where
+    go : Dec (s < n) → s < n
+    go (yes l) = l
+    go (no l) = absurd (true≢false (sym h ∙ has-above n x s b (omega arith)))
 
 bit-shift : (x n s : ℕ) → bit (x / 2 ^ n) s ≡ bit x (n + s)
 bit-shift x n s = ap (λ (y : ℕ). y % 2) (shr-shr x n s)
@@ -351,17 +371,26 @@ lowest-has n x h some = l .here (go (decLt (lowest n x) n))
         gone s (yes m) = l .none s (let b : lowest n x ≤ n = l .small in omega arith)
         gone s (no m) = has-above n x s h (omega arith)
 
+-- where a set of steps below n has a step, its lowest is below n
+pub lowest-below : (n x : ℕ) → x < 2 ^ n → (x ≡ 0 → ⊥) → lowest n x < n
+lowest-below n x h some = go (decLt (lowest n x) n)
+  where
+    go : Dec (lowest n x < n) → lowest n x < n
+    go (yes k) = k
+    go (no k) = absurd (true≢false (sym (lowest-has n x h some) ∙ has-above n x (lowest n x) h (omega arith)))
+
 -- a wider look finds the same lowest step
 pub lowest-wider : (n m x : ℕ) → n ≤ m → x < 2 ^ n → (x ≡ 0 → ⊥) → lowest m x ≡ lowest n x
 lowest-wider n m x h l some =
     least-unique m x (lowest m x) (lowest n x) (lowest-least m x)
     (record { small = le-trans (lowest-least n x .small) h; none = lowest-least n x .none; here = λ k. lowest-has n x l some })
 
-has-half : (x s : ℕ) → has x (suc s) ≡ has (x / 2) s
+-- the steps above 0 are those of the half
+pub has-half : (x s : ℕ) → has x (suc s) ≡ has (x / 2) s
 unfolding has
 has-half x s = ap (λ (y : ℕ). eqb y 1) (sym (bit-half x s))
 
-has-low : (x d : ℕ) → x % 2 ≡ d → has x 0 ≡ eqb d 1
+pub has-low : (x d : ℕ) → x % 2 ≡ d → has x 0 ≡ eqb d 1
 unfolding has
 has-low x d e = ap (λ (y : ℕ). eqb y 1) (bit-low x ∙ e)
 
@@ -400,6 +429,26 @@ within-gather n (suc k) f = within-union n (gather k f) (f k) ∙ ap (λ (b : Bo
 pub gather-more : (k : ℕ) (f : ℕ → ℕ) → gather (k + 1) f ≡ union (gather k f) (f k)
 unfolding gather
 gather-more k f = rw add-one refl
+
+-- the steps below n of which q holds
+pub has-those : (n : ℕ) (q : ℕ → Bool) (s : ℕ) → has (gather n (λ e. cond (q e) (single e) 0)) s ≡ (ltb s n && q s)
+unfolding gather
+has-those zero q s = has-zero s ∙ sym (ap (λ (b : Bool). b && q s) (le-ltb s 0 zero-le))
+has-those (suc n) q s =
+    has-union (gather n (λ e. cond (q e) (single e) 0)) (cond (q n) (single n) 0) s
+    ∙ ap₂ _||_ (has-those n q s) (one (q n))
+    ∙ go (decLt s n) (decLt n s)
+  where
+    one : (b : Bool) → has (cond b (single n) 0) s ≡ (b && eqb n s)
+    one true = has-single n s
+    one false = has-zero s
+
+    go : Dec (s < n) → Dec (n < s) → ((ltb s n && q s) || (q n && eqb n s)) ≡ (ltb s (suc n) && q s)
+    go (yes h) k = simp (lt-ltb s n h, lt-ltb s (suc n) (omega arith), ne-eqb n s (λ e. omega arith), and-false, or-false)
+    go (no h) (yes k) = simp (le-ltb s n (omega arith), le-ltb s (suc n) (omega arith), ne-eqb n s (λ e. omega arith), and-false)
+    go (no h) (no k) =
+        let same : n ≡ s = omega arith in
+        simp (le-ltb s n (omega arith), lt-ltb s (suc n) (omega arith), eq-eqb n s same, and-true) (ap q same)
 
 -- a test over a range holds exactly if it holds at each of its numbers
 pub every-at : (k : ℕ) (p : ℕ → Bool) → every k p ≡ true → (i : ℕ) → i < k → p i ≡ true

@@ -18,7 +18,7 @@ use Rattle.rules.specs.First.{first}
 use Rattle.rules.specs.Graph.{row, keeps, countsFit, setsFit, kindsApart}
 use Rattle.rules.specs.Move.{markingFits}
 use Rattle.rules.specs.Laws.{Counted, counts-bound, first-clear, first-refused, clear-head, clear-tail}
-use Rattle.rules.specs.Sound.{Inside, fits-inside, keeps-row}
+use Rattle.rules.specs.Sound.{Inside, fits-inside, keeps-row, keeps-gone}
 use Rattle.arrows.specs.Arrows.{Arrow, spelt, arrowsOf, fourTables}
 use Rattle.arrows.specs.Places.{spelt-append}
 use Rattle.arrows.specs.Rows.{kindArrows, countOf, turned, Kept, byKind, by-kind}
@@ -28,7 +28,6 @@ use Rattle.layout.specs.Laws.{length-front}
 use Rattle.bodies.specs.Bodies.{countsBody, markingBody, rolesBody}
 use Rattle.bodies.specs.Laws.{length-counts, length-marking, length-roles}
 use Rattle.sheet.specs.declared.Written.{Written}
-use Rattle.sheet.specs.More.{keeps-gone}
 use Rattle.sheet.specs.Sheet.{arrowsBody, bodiesOf, sheetBytes, contentLines, writeVerdict, writtenOf, theWritten, roomAfter, ifClear}
 use Rattle.sheet.specs.Judge.{if-clear, if-refused}
 use Rattle.sheet.specs.Write.{arrowCount, arrowsWritten, sizesWritten, bodiesWritten, length-arrows}

@@ -2,5 +2,4 @@ pub mod Sheet
 pub mod Judge
 pub mod Answer
 pub mod Write
-pub mod More
 pub mod Content

@@ -21,10 +21,10 @@ use Rattle.rules.specs.declared.Move.{Move}
 use Rattle.rules.specs.First.{Line, first, numberOf}
 use Rattle.rules.specs.Graph.{graphLines, graphVerdict}
 use Rattle.rules.specs.Move.{markingFits, markingLines, entryLines, moveLines, theMove, entryMove, moveOf, rowOf, after}
-use Rattle.rules.specs.Laws.{first-clear, first-refused, first-below, numbersBelow, ascends, clear-head, clear-tail}
+use Rattle.rules.specs.Laws.{first-clear, first-refused, first-below, numbersBelow, ascends, clear-head, clear-tail, first-above, clear-front, clear-back}
+use Rattle.rules.specs.Entries.{clear-moved, moved-clear, moved-after}
 use Rattle.tracker.specs.declared.Track.{Track}
 use Rattle.tracker.specs.declared.Tracked.{Tracked}
-use Rattle.tracker.specs.More.{first-above, clear-front, clear-back, clear-moved, moved-clear, moved-after}
 use Rattle.tracker.specs.Tracker.{isRank, rankOf, pending, above, pool, meets, served, begin, rest, trackAfter, startLines, rankLines, idleLines, stepLines, trackedOf, theStart, theIdle, theStep}
 
 -- ---- what is against graph and marking

@@ -10,7 +10,7 @@ use lib.Dec.{eqb, ltb}
 use lib.Bits.{and-comm}
 use borrow.Author.Tests.{lt-ltb, le-ltb, le-leb, eq-eqb, eqb-true, eqb-false}
 use Rattle.sets.specs.Sets.{has, single, union, meet, minus, empty, full, lowest}
-use Rattle.sets.specs.Laws.{ext, has-minus, has-union, has-single, has-above, meet-lt, minus-lt, lowest-has, lowest-wider, and-left, and-intro, same-truth}
+use Rattle.sets.specs.Laws.{ext, has-minus, has-union, has-single, has-above, meet-lt, minus-lt, lowest-has, lowest-wider, and-left, and-intro, same-truth, has-those}
 use Rattle.rules.specs.declared.Graph.{Graph}
 use Rattle.rules.specs.declared.Marking.{Marking}
 use Rattle.rules.specs.declared.Entry.{Entry}
@@ -20,9 +20,9 @@ use Rattle.rules.specs.Graph.{graphVerdict}
 use Rattle.rules.specs.Move.{isFinished}
 use Rattle.rules.specs.Laws.{clear-counts}
 use Rattle.rules.specs.Sound.{Inside, inside-fits}
+use Rattle.rules.specs.Entries.{moved-after}
 use Rattle.tracker.specs.declared.Track.{Track}
 use Rattle.tracker.specs.declared.Tracked.{Tracked}
-use Rattle.tracker.specs.More.{has-those, moved-after}
 use Rattle.tracker.specs.Tracker.{isRank, begin, rest, pending, above, pool, meets, served, trackAfter, startLines, theStart, theIdle, theStep}
 use Rattle.tracker.specs.Paper.{State, Initial, Tau, Transition, those, rank, min, _∈_, rankOfMin, j′, i′}
 use Rattle.tracker.specs.Laws.{above-members, sound-inside, start-clear, idle-clear, idle-at, Stepped, step-at, at-step, rank-is}

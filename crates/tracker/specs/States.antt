@@ -8,18 +8,18 @@ use native.Mathlib.Omega.{arith}
 use lib.Dec.{leb, ltb}
 use borrow.Author.Tests.{eqb-false, ltb-true, not-false, not-true}
 use Rattle.sets.specs.Sets.{empty, full, lowest}
-use Rattle.sets.specs.Laws.{and-left, and-right, meet-lt, minus-lt, lowest-wider}
+use Rattle.sets.specs.Laws.{and-left, and-right, meet-lt, minus-lt, lowest-wider, lowest-below}
 use Rattle.rules.specs.declared.Graph.{Graph}
 use Rattle.rules.specs.declared.Marking.{Marking}
 use Rattle.rules.specs.declared.Entry.{Entry}
 use Rattle.rules.specs.declared.Verdict.{Verdict}
 use Rattle.rules.specs.First.{first, number, numberOf}
 use Rattle.rules.specs.Move.{isFinished, known, entryLines}
-use Rattle.rules.specs.Laws.{ascends, clear-head}
+use Rattle.rules.specs.Laws.{ascends, clear-head, clear-front, clear-back}
 use Rattle.rules.specs.Sound.{Inside, Sound, clear-sound, fits-inside, after-inside}
+use Rattle.rules.specs.Entries.{moved-clear, moved-after}
 use Rattle.tracker.specs.declared.Track.{Track}
 use Rattle.tracker.specs.declared.Tracked.{Tracked}
-use Rattle.tracker.specs.More.{lowest-below, clear-front, clear-back, moved-clear, moved-after}
 use Rattle.tracker.specs.Tracker.{pending, above, pool, meets, served, begin, rest, startLines, idleLines, stepLines, trackedOf, theStart, theIdle, theStep, numberAnswered}
 use Rattle.tracker.specs.Paper.{State}
 use Rattle.tracker.specs.Laws.{clear-graph, clear-fits, rank-some, rank-most, rank-is, start-at, Idled, idle-at, Stepped, step-at}

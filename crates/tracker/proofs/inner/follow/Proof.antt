@@ -5,7 +5,7 @@ use native.Mathlib.Omega.{arith}
 use borrow.Author.Needs.{needs}
 use borrow.Author.Tests.{eq-eqb}
 use Rattle.sets.specs.Sets.{lowest}
-use Rattle.tracker.specs.More.{lowest-below}
+use Rattle.sets.specs.Laws.{lowest-below}
 use Rattle.tracker.specs.Tracker.{trackAfter}
 use Rattle.tracker.specs.Laws.{after-met, after-unmet}
 use Rattle.tracker.proofs.inner.follow.Statement.{statement}

@@ -10,42 +10,15 @@ use lib.ListN.{length, List·getD-eq-default}
 use lib.Dec.{ltb}
 use borrow.Author.Tests.{ltb-true, lt-ltb, le-ltb, not-false}
 use Rattle.sets.specs.Sets.{has, within, every}
-use Rattle.sets.specs.Laws.{and-left, and-right, and-intro, same-truth, every-at, has-zero, has-above}
+use Rattle.sets.specs.Laws.{and-left, and-right, and-intro, same-truth, every-at, has-zero, has-above, member-below}
 use Rattle.rules.specs.declared.Graph.{Graph}
 use Rattle.rules.specs.declared.Entry.{Entry}
 use Rattle.rules.specs.declared.Verdict.{Verdict}
 use Rattle.rules.specs.Graph.{row, keeps, rolesFit, arrowsFit, setsFit, graphVerdict, rolesHeld, rolesOf}
 use Rattle.rules.specs.Move.{known, personHolds, stepHas}
 use Rattle.rules.specs.Laws.{clear-head, clear-tail}
-use Rattle.rules.specs.Sound.{Sound, clear-sound}
+use Rattle.rules.specs.Sound.{Sound, clear-sound, named-below}
 use Rattle.folding.specs.Fold.{rowAt, possible}
-
--- a table that keeps to its counts has nothing in a row beyond them
-keeps-beyond : (count limit : ℕ) (table : List ℕ) → keeps count limit table ≡ true → (i : ℕ) → count ≤ i → row table i ≡ 0
-unfolding keeps
-keeps-beyond count limit table e i h = go (decLt i (length table))
-  where
-    go : Dec (i < length table) → row table i ≡ 0
-    go (yes l) =
-        let kept : ltb (row table i) (2 ^ cond (ltb i count) limit 0) ≡ true = every-at (length table) (λ k. within (cond (ltb k count) limit 0) (row table k)) e i l in
-        let small : row table i < 1 = ltb-true (row table i) 1 (ap (λ (b : Bool). ltb (row table i) (2 ^ cond b limit 0)) (sym (le-ltb i count h)) ∙ kept) in
-        omega arith
-    go (no l) = List·getD-eq-default table 0 {n = i} (let w : length table ≤ i = omega arith in w)
-
--- a row with a member is not beyond the counts
-named-below : (count limit : ℕ) (table : List ℕ) → keeps count limit table ≡ true → (i s : ℕ) → has (row table i) s ≡ true → i < count
-named-below count limit table e i s h = go (decLt i count)
-  where
-    go : Dec (i < count) → i < count
-    go (yes l) = l
-    go (no l) = absurd (true≢false (sym h ∙ ap (λ (x : ℕ). has x s) (keeps-beyond count limit table e i (omega arith)) ∙ has-zero s))
-
-member-below : (n x s : ℕ) → x < 2 ^ n → has x s ≡ true → s < n
-member-below n x s b h = go (decLt s n)
-  where
-    go : Dec (s < n) → s < n
-    go (yes l) = l
-    go (no l) = absurd (true≢false (sym h ∙ has-above n x s b (omega arith)))
 
 -- an entry is possible exactly if its person holds the role and its step has it
 pub possible-serves : (g : Graph) (e : Entry) → graphVerdict g ≡ Verdict.Clear → possible g e ≡ (personHolds (rowAt g e) e && stepHas (rowAt g e) e)
