@@ -1,11 +1,10 @@
 -- Graphs (Definitions 3 and 5), and when one handed over as a value is refused.
-use Prim.Native.Nat.{ℕ, _≤_}
-use mathlib.Core.Path.{_≡_}
+use Prim.Native.Nat.{ℕ}
 use mathlib.Core.List.{List, [], _∷_}
 use mathlib.Core.Bool.{Bool, true, false, not, _&&_, cond}
 use lib.ListN.{length, getD}
 use lib.Dec.{ltb, leb}
-use Rattle.sets.specs.Sets.{meet, union, empty, within, every}
+use Rattle.sets.specs.Sets.{meet, empty, within, every}
 use Rattle.rules.specs.declared.Graph.{Graph}
 use Rattle.rules.specs.declared.Refusal.the-variants.{Counts, Beyond, Both}
 use Rattle.rules.specs.declared.Verdict.{Verdict}
@@ -101,31 +100,3 @@ lentGraph steps people roles allows holds conditions responses includes excludes
       includes = includes;
       excludes = excludes;
     }
-
--- ---- what the code gathers of the tables
-
--- row i, where i is not below the count
-abbrev pub beyond : ℕ → (ℕ → ℕ) → ℕ → ℕ
-beyond count rows i = cond (ltb i count) 0 (rows i)
-
--- what row i of one of four tables names
-abbrev pub rowsTogether : List ℕ → List ℕ → List ℕ → List ℕ → ℕ → ℕ
-rowsTogether a b c d i = union (union (row a i) (row b i)) (union (row c i) (row d i))
-
--- what row i of both of two tables names
-abbrev pub rowsShared : List ℕ → List ℕ → ℕ → ℕ
-rowsShared a b i = meet (row a i) (row b i)
-
--- each of four tables has at least k rows
-pub record Reach (k : ℕ) (a b c d : List ℕ) : Type 0 where
-  pub first : k ≤ length a
-  pub second : k ≤ length b
-  pub third : k ≤ length c
-  pub fourth : k ≤ length d
-
--- each of four tables has k rows
-pub record Sized (k : ℕ) (a b c d : List ℕ) : Type 0 where
-  pub first : length a ≡ k
-  pub second : length b ≡ k
-  pub third : length c ≡ k
-  pub fourth : length d ≡ k

@@ -21,7 +21,8 @@ use Rattle.rules.specs.declared.Move.{Move}
 use Rattle.rules.specs.declared.Ending.{Ending}
 use Rattle.rules.specs.declared.Refusal.the-variants.{Outside, Unknown}
 use Rattle.rules.specs.First.{Line, first, number, numberOf}
-use Rattle.rules.specs.Graph.{row, keeps, beyond, rowsTogether, rowsShared, Sized, rolesFit, arrowsFit, kindsApart, graphLines, graphVerdict, countsFit, within1to}
+use Rattle.rules.specs.Graph.{row, keeps, rolesFit, arrowsFit, kindsApart, graphLines, graphVerdict, countsFit, within1to}
+use Rattle.rules.specs.Gathered.{beyond, rowsTogether, rowsShared, Sized}
 use Rattle.rules.specs.Move.{moveOf, entryMove, moveOn, theMove, theEnding, endingOn, endingOf, isFinished, known, markingFits, moveLines, entryLines, markingLines, sizeLines, rowLines, rowOf, after, noMarking}
 
 -- ---- the first line that holds

@@ -1,5 +1,6 @@
 pub mod First
 pub mod Graph
+pub mod Gathered
 pub mod Move
 pub mod Laws
 pub mod Sound

@@ -8,7 +8,7 @@ use borrow.Author.Tests.{le-ltb}
 use borrow.Author.Needs.{needs}
 use Rattle.sets.specs.Sets.{gather, union}
 use Rattle.sets.specs.Laws.{gather-more}
-use Rattle.rules.specs.Graph.{beyond, rowsTogether}
+use Rattle.rules.specs.Gathered.{beyond, rowsTogether}
 use Rattle.rules.specs.Laws.{gather-front}
 use Rattle.rules.proofs.lent.arrows_beyond.Statement.{statement}
 use Rattle.rules.proofs.lent.arrows_beyond.Tie as tie

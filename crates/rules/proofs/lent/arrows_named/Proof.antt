@@ -5,7 +5,7 @@ use native.Mathlib.Omega.{arith}
 use borrow.Author.Needs.{needs}
 use Rattle.sets.specs.Sets.{gather, union}
 use Rattle.sets.specs.Laws.{gather-more}
-use Rattle.rules.specs.Graph.{rowsTogether, rowsShared}
+use Rattle.rules.specs.Gathered.{rowsTogether, rowsShared}
 use Rattle.rules.proofs.lent.arrows_named.Statement.{statement}
 use Rattle.rules.proofs.lent.arrows_named.Tie as tie
 

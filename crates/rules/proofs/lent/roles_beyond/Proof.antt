@@ -9,7 +9,8 @@ use borrow.Author.Tests.{le-ltb}
 use borrow.Author.Needs.{needs}
 use Rattle.sets.specs.Sets.{gather, union}
 use Rattle.sets.specs.Laws.{gather-more}
-use Rattle.rules.specs.Graph.{row, beyond}
+use Rattle.rules.specs.Graph.{row}
+use Rattle.rules.specs.Gathered.{beyond}
 use Rattle.rules.specs.Laws.{gather-front}
 use Rattle.rules.proofs.lent.roles_beyond.Statement.{statement}
 use Rattle.rules.proofs.lent.roles_beyond.Tie as tie
