@@ -9,9 +9,9 @@ use Rattle.rules.specs.declared.inner.Row.{Row}
 use Rattle.rules.specs.declared.Marking.{Marking}
 use Rattle.rules.specs.declared.Entry.{Entry}
 use Rattle.rules.specs.declared.Move.{Move}
-use Rattle.rules.specs.Move.{rowOf, known, personHolds, stepHas, after, entryMove}
+use Rattle.rules.specs.Move.{rowOf, known, personHolds, stepHas, entryMove}
 use Rattle.records.specs.declared.Record.{Record}
-use Rattle.records.specs.Records.{identity, impossible, compose, tidy, join}
+use Rattle.records.specs.Records.{identity, impossible, tidy, join}
 
 -- what an entry meets of the graph
 abbrev pub rowAt : Graph → Entry → Row
@@ -57,13 +57,3 @@ movedTo (Move.Refused r back) = none
 unfoldable pub passes : Graph → Marking → List Entry → Option Marking
 passes g m [] = some m
 passes g m (e ∷ rest) = bind (movedTo (entryMove g m e)) (λ next. passes g next rest)
-
--- the marking after the steps of all the entries, allowed or not
-unfoldable pub afterAll : Graph → Marking → List Entry → Marking
-afterAll g m [] = m
-afterAll g m (e ∷ rest) = afterAll g (after (rowAt g e) m (e .step .0)) rest
-
--- and what they do together, as a record
-unfoldable pub effect : Graph → List Entry → Record
-effect g [] = identity
-effect g (e ∷ rest) = compose (stepRecord (rowAt g e) (e .step .0)) (effect g rest)

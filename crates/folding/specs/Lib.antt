@@ -1,4 +1,5 @@
 pub mod Fold
+pub mod Effect
 pub mod Possible
 pub mod Answers
 pub mod Laws

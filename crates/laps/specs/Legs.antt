@@ -20,7 +20,7 @@ use Rattle.rules.specs.declared.Entry.{Entry}
 use Rattle.rules.specs.declared.Refusal.{Refusal}
 use Rattle.rules.specs.declared.Verdict.{Verdict}
 use Rattle.rules.specs.Move.{rowOf, after, moveOf, entryMove}
-use Rattle.folding.specs.Fold.{afterAll}
+use Rattle.folding.specs.Effect.{afterAll}
 use Rattle.laps.specs.declared.lent.Leg.{Leg}
 use Rattle.laps.specs.Endless.{stepAt, markingAt, verdictAt, DueAt, DoneAt, ExcludedAt, Waiting}
 use Rattle.laps.specs.Decision.{still, goOn, legOn}

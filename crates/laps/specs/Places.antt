@@ -18,7 +18,7 @@ use Rattle.rules.specs.declared.Entry.{Entry}
 use Rattle.rules.specs.declared.Refusal.{Refusal}
 use Rattle.rules.specs.declared.Verdict.{Verdict}
 use Rattle.journal.specs.Journal.{entryOf}
-use Rattle.folding.specs.Fold.{afterAll}
+use Rattle.folding.specs.Effect.{afterAll}
 use Rattle.folding.specs.Laws.{after-twice}
 use Rattle.laps.specs.declared.Pass.{Pass}
 use Rattle.laps.specs.Endless.{markingAt, verdictAt, DueAt, GoesOn, Waiting, Starving}
