@@ -1,5 +1,6 @@
 //! The procedure box a second time, twice: `model` decides what is right, `peer` is what the box is raced against.
-//! `data` holds what crosses the border, `cases` makes inputs, `sample` is the small sample job of document 01.
+//! `data` holds what crosses the border, `cases` makes inputs, `sample` is the small sample job of document 01, and `program` is
+//! the model as a program of its own.
 
 #![forbid(unsafe_code)]
 
@@ -7,6 +8,7 @@ pub mod cases;
 pub mod data;
 pub mod model;
 pub mod peer;
+pub mod program;
 pub mod sample;
 
 #[cfg(test)]

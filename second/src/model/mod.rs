@@ -16,12 +16,13 @@ mod walk;
 
 pub use check::check;
 pub use finished::finished;
-pub use graph::Graph;
+pub use graph::{members, Graph};
+pub use journal::entries;
 pub use lap::lap;
 pub use marking::Marking;
 pub use run::run;
-pub use take::take;
-pub use track::{track_idle, track_start, track_step};
+pub use take::{take, waiting};
+pub use track::{pending, track_entry, track_idle, track_start, track_step};
 pub use walk::Walk;
 
 /// "The lowest number that holds is given, per call": 0 if none of them holds.

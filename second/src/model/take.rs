@@ -30,7 +30,7 @@ pub fn enter(g: &Graph, m: &Marking, entry: Entry) -> (Answer, Marking) {
 }
 
 /// Condition: "if a is included, a must have been done before b". The steps a for which this fails.
-fn waiting(g: &Graph, m: &Marking, step: usize) -> BTreeSet<usize> {
+pub fn waiting(g: &Graph, m: &Marking, step: usize) -> BTreeSet<usize> {
     let conditions = (0..g.steps).filter(|&a| g.conditions.contains(&(a, step)));
     conditions.filter(|a| m.included.contains(a) && !m.done.contains(a)).collect()
 }

@@ -21,11 +21,16 @@ pub fn track_idle(g: &Graph, m: &Marking, rank: u8) -> Answer {
 /// The answer and the marking afterwards, which is the one handed in when the step is refused.
 pub fn track_step(g: &Graph, m: &Marking, rank: u8, entry: Entry) -> (Answer, Marking) {
     match refused(g, &numbers(g, m, rank)) {
-        0 => match enter(g, m, entry) {
-            (Answer(0), after) => (go_along(&pending(m), &pending(&after), rank.into(), entry.step.into()), after),
-            refusal => refusal,
-        },
+        0 => track_entry(g, m, rank, entry),
         number => (Answer::new(number, 0), m.clone()),
+    }
+}
+
+/// The same where graph, marking and rank are as they should be: only the entry is looked at.
+pub fn track_entry(g: &Graph, m: &Marking, rank: u8, entry: Entry) -> (Answer, Marking) {
+    match enter(g, m, entry) {
+        (Answer(0), after) => (go_along(&pending(m), &pending(&after), rank.into(), entry.step.into()), after),
+        refusal => refusal,
     }
 }
 
@@ -50,7 +55,7 @@ fn rank_of(s: usize) -> usize {
 }
 
 /// The steps due and included.
-fn pending(m: &Marking) -> BTreeSet<usize> {
+pub fn pending(m: &Marking) -> BTreeSet<usize> {
     m.due.intersection(&m.included).copied().collect()
 }
 
