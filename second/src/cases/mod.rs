@@ -5,6 +5,7 @@ mod dice;
 mod entries;
 pub mod folds;
 mod graphs;
+pub mod jobs;
 pub mod journals;
 pub mod laps;
 mod markings;

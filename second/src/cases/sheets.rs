@@ -25,11 +25,12 @@ pub fn make(dice: &mut Dice) -> Sheet {
     if dice.one_in(2) {
         harm(dice, &mut graph, &mut marking);
     }
-    Sheet { sheet: Bytes(damaged(dice, sheet)), graph, marking, room: room(dice, length) }
+    let faults = dice.pick(&[0, 0, 1, 1, 1, 2]);
+    Sheet { sheet: Bytes(damaged(dice, sheet, faults)), graph, marking, room: room(dice, length) }
 }
 
 /// A well-formed graph with a marking: small ones half of the time, now and then one with all 12,288 arrows.
-fn whole(dice: &mut Dice) -> (Graph, Marking) {
+pub fn whole(dice: &mut Dice) -> (Graph, Marking) {
     let graph = match dice.below(32) {
         0 => graphs::sized(dice, [64, 16, 16], [Density::Full; 6]),
         1 => sample::graph(),
@@ -45,7 +46,7 @@ fn whole(dice: &mut Dice) -> (Graph, Marking) {
 }
 
 /// Its sheet, or nothing where it has none.
-fn written(graph: &Graph, marking: &Marking) -> Vec<u8> {
+pub fn written(graph: &Graph, marking: &Marking) -> Vec<u8> {
     let mut room = vec![0; ROOM];
     let length = peer::sheet::write(graph, marking, &mut room).unwrap_or(0);
     room.truncate(length);
@@ -65,10 +66,10 @@ fn room(dice: &mut Dice, needed: usize) -> Bytes {
     Bytes(vec![fill; length])
 }
 
-/// Nothing, a third of the time; otherwise one thing is wrong with it, or now and then two.
-fn damaged(dice: &mut Dice, sheet: Vec<u8>) -> Vec<u8> {
+/// With so many things wrong with it, in any of its fields.
+pub fn damaged(dice: &mut Dice, sheet: Vec<u8>, faults: usize) -> Vec<u8> {
     let mut parts = Parts::new(&sheet);
-    for _ in 0..dice.pick(&[0, 0, 1, 1, 1, 2]) {
+    for _ in 0..faults {
         match dice.below(12) {
             0 | 1 => {
                 parts.fit();

@@ -2,6 +2,7 @@
 
 mod call;
 mod files;
+mod generate;
 mod journals;
 mod lines;
 mod records;
@@ -9,6 +10,7 @@ mod refusals;
 mod sheets;
 
 pub use call::{call, Told};
+pub use generate::generate;
 
 use lines::Lines;
 

@@ -2,6 +2,7 @@
 
 mod journals;
 mod laps;
+mod program;
 mod records;
 mod rules;
 mod sheets;

@@ -1,0 +1,116 @@
+//! Jobs as files: a sheet with journals, a marking and a record that go with it.
+
+use super::{
+    graphs, journals, markings, records,
+    sheets::{damaged, whole, written},
+    walks::{push, refused, walk},
+    Density, Dice,
+};
+use crate::data::{Graph, Marking};
+use crate::sample;
+
+#[derive(Clone, PartialEq, Eq, Debug)]
+pub struct Job {
+    pub sheet: Vec<u8>,
+    /// Allowed from the sheet's marking on; allowed after that one; most often refused somewhere; and an odd one.
+    pub journals: [Vec<u8>; 4],
+    pub marking: Vec<u8>,
+    pub record: Vec<u8>,
+}
+
+/// The first is the sample job, the second has all 12,288 arrows, the third a journal of full length; the others are of any
+/// kind, and a quarter of them has a damaged sheet.
+pub fn make(dice: &mut Dice, index: u64) -> Job {
+    match index {
+        0 => of_graph(dice, &sample::graph(), sample::START, 0),
+        1 => {
+            let (graph, marking) = dense(dice);
+            of_graph(dice, &graph, marking, 0)
+        }
+        2 => long(dice),
+        _ => {
+            let (graph, marking) = any(dice);
+            let faults = dice.pick(&[0, 0, 0, 0, 0, 0, 1, 2]);
+            of_graph(dice, &graph, marking, faults)
+        }
+    }
+}
+
+fn any(dice: &mut Dice) -> (Graph, Marking) {
+    match dice.below(24) {
+        0 => (sample::graph(), dice.pick(&[sample::START, sample::REBOOTED, sample::CHECKED])),
+        1 => dense(dice),
+        2..5 => sparse(dice),
+        5..12 => whole(dice),
+        _ => livened(dice, graphs::lively),
+    }
+}
+
+/// As many steps, people, roles and arrows as there can be.
+fn dense(dice: &mut Dice) -> (Graph, Marking) {
+    livened(dice, |dice| graphs::sized(dice, [64, 16, 16], [Density::Full; 6]))
+}
+
+fn sparse(dice: &mut Dice) -> (Graph, Marking) {
+    let sizes = [64, 16, 16].map(|most| dice.between(1, most + 1) as u8);
+    livened(dice, |dice| graphs::sized(dice, sizes, [Density::Sparse; 6]))
+}
+
+fn livened(dice: &mut Dice, graph: impl FnOnce(&mut Dice) -> Graph) -> (Graph, Marking) {
+    let graph = graph(dice);
+    let mut marking = markings::inside(dice, graph.steps);
+    markings::liven(dice, graph.steps, &mut marking);
+    (graph, marking)
+}
+
+/// The first journal is as long as a journal can be.
+fn long(dice: &mut Dice) -> Job {
+    let journals::Journal { graph, marking, journal, .. } = journals::full(dice);
+    let mut job = of_graph(dice, &graph, marking, 0);
+    job.journals[0] = journal.0;
+    job
+}
+
+fn of_graph(dice: &mut Dice, g: &Graph, start: Marking, faults: usize) -> Job {
+    let (mut at, mut first, mut second) = (start, Vec::new(), Vec::new());
+    let [in_first, in_second] = [(); 2].map(|()| journals::length(dice));
+    walk(dice, g, &mut at, in_first, &mut first);
+    let end = at;
+    walk(dice, g, &mut at, in_second, &mut second);
+    let journals = [first, second, refused_somewhere(dice, g, start), odd(dice, g, start)];
+    let other = markings::inside(dice, g.steps);
+    let mut marking = dice.pick(&[start, end, other]);
+    if dice.one_in(8) {
+        markings::name_beyond(dice, g.steps, &mut marking);
+    }
+    let words = records::record(dice, g.steps);
+    Job {
+        sheet: damaged(dice, written(g, &start), faults),
+        journals,
+        marking: marking.0.iter().flat_map(|set| set.to_le_bytes()).collect(),
+        record: records::bytes(dice, g.steps, words),
+    }
+}
+
+/// Allowed entries, one that is refused in any of the five ways, and others after it.
+fn refused_somewhere(dice: &mut Dice, g: &Graph, mut at: Marking) -> Vec<u8> {
+    let (mut journal, [before, after]) = (Vec::new(), [(); 2].map(|()| dice.below(12)));
+    walk(dice, g, &mut at, before, &mut journal);
+    push(&mut journal, refused(dice, g, &at));
+    walk(dice, g, &mut at, after, &mut journal);
+    journal
+}
+
+/// Empty, of bad length, or of any entries.
+fn odd(dice: &mut Dice, g: &Graph, at: Marking) -> Vec<u8> {
+    let (mut journal, entries) = (Vec::new(), journals::length(dice));
+    match dice.below(4) {
+        0 => return journal,
+        1 => {
+            walk(dice, g, &mut { at }, entries, &mut journal);
+            journals::spoil_length(dice, &mut journal);
+        }
+        _ => journals::write(dice, g, at, entries, &mut journal),
+    }
+    journal
+}
