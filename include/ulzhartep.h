@@ -123,7 +123,11 @@ uint64_t ulz_finished(ULZ_GRAPH, const uint64_t marking[3]);
 
 /* ---- Journals ---- */
 
-/* ulz_take once more, by way of the kept marking: the same answers, and the same marking afterwards. */
+/*
+ * ulz_take once more, by way of the kept marking: the same marking afterwards, and the same answers.
+ *
+ *     0, 2, 4, 6, 8, 11 to 15   as in ulz_take
+ */
 uint64_t ulz_keep(ULZ_GRAPH, uint64_t marking[3], uint8_t person, uint8_t step, uint8_t role);
 
 /*
@@ -195,7 +199,7 @@ uint64_t ulz_record_read(uint8_t n, const uint8_t *bytes, size_t length, uint64_
 uint64_t ulz_record_write(uint8_t n, const uint64_t words[9], uint8_t *room, size_t length);
 
 /*
- * Applies the record of a journal's beginning, then takes the entries of its rest.
+ * Applies the record of a journal's beginning, read for the steps of the graph, then takes the entries of its rest.
  *
  *     0                   all pass: the marking lent is now the end marking, and the index is the number of entries of the rest
  *     2, 4, 6, 7, 8, 10   graph, journal, marking or record are not as above
@@ -270,7 +274,7 @@ uint64_t ulz_track_idle(ULZ_GRAPH, const uint64_t marking[3], uint8_t rank, uint
 uint64_t ulz_track_step(ULZ_GRAPH, uint64_t marking[3], uint8_t rank, uint8_t flag, uint8_t person, uint8_t step,
                         uint8_t role);
 
-/* ---- A graph in one piece, for callers who keep it so, and the calls over it. Start from zeros: ulz_graph g = {0}; ---- */
+/* ---- A graph in one piece, for callers who keep it so, and the calls over it. Start from zeros: ulz_graph g = {0}; or, in C++, {} ---- */
 
 typedef struct ulz_graph {
     uint64_t conditions[64], responses[64], includes[64], excludes[64];
