@@ -274,8 +274,9 @@ uint64_t ulz_track_idle(ULZ_GRAPH, const uint64_t marking[3], uint8_t rank, uint
 uint64_t ulz_track_step(ULZ_GRAPH, uint64_t marking[3], uint8_t rank, uint8_t flag, uint8_t person, uint8_t step,
                         uint8_t role);
 
-/* ---- A graph in one piece, for callers who keep it so, and the calls over it. Start from zeros: ulz_graph g = {0}; or, in C++, {} ---- */
+/* ---- A graph in one piece, for callers who keep it so, and the calls over it ---- */
 
+/* Start from zeros: ulz_graph g = {0}; in C++, ulz_graph g = {}; */
 typedef struct ulz_graph {
     uint64_t conditions[64], responses[64], includes[64], excludes[64];
     uint16_t allows[64], holds[16];
