@@ -17,7 +17,7 @@ pub struct Report {
     pub sheets: usize,
     commands: usize,
     pub differences: usize,
-    /// How often each command was refused with each number.
+    /// How often each number was given.
     numbers: BTreeMap<u32, usize>,
     told: String,
 }
@@ -78,8 +78,11 @@ impl Report {
 
 /// Also in this: wrong use is one line on standard error and nothing else.
 fn alike([one, other]: &[Heard; 2]) -> bool {
-    let complaint = if one.status == 2 { Complaint::Line } else { Complaint::None };
-    one == other && one.err == complaint && (one.status != 2 || one.out.is_empty())
+    let in_form = match one.status {
+        2 => matches!(one.err, Complaint::Line(_)) && one.out.is_empty(),
+        _ => one.err == Complaint::None,
+    };
+    one == other && in_form
 }
 
 /// The number of a refusal, if the output has one.

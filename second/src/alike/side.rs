@@ -16,7 +16,6 @@ pub struct Side {
 #[derive(PartialEq, Eq)]
 pub struct Heard {
     pub out: String,
-    /// Only how it looks: the words of wrong use are each program's own.
     pub err: Complaint,
     pub status: i32,
     pub file: Option<Vec<u8>>,
@@ -25,10 +24,13 @@ pub struct Heard {
 #[derive(PartialEq, Eq, Debug)]
 pub enum Complaint {
     None,
-    /// One line that begins with `ulz: `.
-    Line,
+    /// One line that begins with `ulz: `, and the whole of it where its words are fixed; otherwise they are each program's own.
+    Line(Option<String>),
     Other(String),
 }
+
+/// How the lines end whose words are fixed.
+const FIXED: [&str; 2] = [": exists already; --force writes over it", ": a marking has 24 bytes"];
 
 /// The status of a program that was stopped from outside.
 const STOPPED: i32 = 255;
@@ -76,7 +78,9 @@ fn complaint(err: &[u8]) -> Complaint {
     let text = String::from_utf8_lossy(err);
     match text.strip_suffix('\n') {
         _ if text.is_empty() => Complaint::None,
-        Some(line) if line.starts_with("ulz: ") && !line.contains('\n') => Complaint::Line,
+        Some(line) if line.starts_with("ulz: ") && !line.contains('\n') => {
+            Complaint::Line(FIXED.iter().any(|end| line.ends_with(end)).then(|| line.into()))
+        }
         _ => Complaint::Other(text.into_owned()),
     }
 }

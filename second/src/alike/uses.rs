@@ -26,8 +26,12 @@ pub fn play(job: &Job, report: &mut Report) -> io::Result<()> {
     for words in ["", "nothing", "--force", "-"] {
         report.ask(Call::new(words))?;
     }
+    report.ask(Call::new("check --any"))?;
+    report.ask(Call::new("write --any").file(&job.sheet).word("any"))?;
+    report.ask(Call::new("check").word("a\nb"))?;
     report.ask(Call::new("check").word(""))?;
     report.ask(Call::new("check").file(&job.sheet).word(""))?;
+    report.ask(call(job, &["apply", "3", "R", "S"]))?;
     for (i, usage) in USES.iter().enumerate() {
         let words: Vec<&str> = usage.split(' ').collect();
         let out = format!("use.{i}");

@@ -1,6 +1,7 @@
 //! Jobs as files: a sheet with journals, a marking and a record that go with it.
 
 use super::{
+    entries::fitting,
     graphs, journals, markings, records,
     sheets::{damaged, whole, written},
     walks::{push, refused, walk},
@@ -12,7 +13,8 @@ use crate::sample;
 #[derive(Clone, PartialEq, Eq, Debug)]
 pub struct Job {
     pub sheet: Vec<u8>,
-    /// Allowed from the sheet's marking on; allowed after that one; most often refused somewhere; and an odd one.
+    /// Allowed from the sheet's marking on; after that one at least one entry, allowed where there is such; most often refused
+    /// somewhere; and an odd one.
     pub journals: [Vec<u8>; 4],
     pub marking: Vec<u8>,
     pub record: Vec<u8>,
@@ -76,7 +78,10 @@ fn of_graph(dice: &mut Dice, g: &Graph, start: Marking, faults: usize) -> Job {
     let [in_first, in_second] = [(); 2].map(|()| journals::length(dice));
     walk(dice, g, &mut at, in_first, &mut first);
     let end = at;
-    walk(dice, g, &mut at, in_second, &mut second);
+    walk(dice, g, &mut at, 1 + in_second, &mut second);
+    if second.is_empty() {
+        push(&mut second, fitting(dice, g));
+    }
     let journals = [first, second, refused_somewhere(dice, g, start), odd(dice, g, start)];
     let other = markings::inside(dice, g.steps);
     let mut marking = dice.pick(&[start, end, other]);

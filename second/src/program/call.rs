@@ -19,7 +19,11 @@ struct Given<'a> {
 }
 
 pub fn call(words: &[String]) -> Told {
-    answered(words).unwrap_or_else(|why| Told { out: String::new(), err: format!("ulz: {why}\n"), status: 2 })
+    answered(words).unwrap_or_else(|why| {
+        // A name may hold an end of line, and there is to be one line.
+        let why = why.replace(char::is_control, "?");
+        Told { out: String::new(), err: format!("ulz: {why}\n"), status: 2 }
+    })
 }
 
 fn answered(words: &[String]) -> Result<Told, String> {
@@ -60,7 +64,8 @@ fn given<'a>(command: &Command, words: &'a [String]) -> Option<Given<'a>> {
         }
     }
     let from_standard_input = given.inputs.iter().filter(|(_, name)| *name == "-").count();
-    let fits = (needed..=takes.len()).contains(&words.len()) && from_standard_input <= 1;
+    let options = words.iter().any(|word| word.starts_with("--"));
+    let fits = (needed..=takes.len()).contains(&words.len()) && from_standard_input <= 1 && !options;
     (fits && (given.out.is_some() || !force)).then_some(given)
 }
 

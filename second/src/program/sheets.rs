@@ -19,33 +19,8 @@ pub fn check(sheet: &[u8]) -> Reply {
 
 pub fn show(sheet: &[u8]) -> Reply {
     let (g, m) = read(sheet)?;
-    let mut lines = counts(Lines::default(), &g);
-    for person in 0..g.people {
-        lines = lines
-            .say(format_args!("person {person}"), format_args!("roles {}", set(&Graph::targets(&g.holds, person))));
-    }
-    for step in 0..g.steps {
-        let marked =
-            [(&m.done, ", done"), (&m.due, ", due")].map(|(set, word)| if set.contains(&step) { word } else { "" });
-        let included = if m.included.contains(&step) { "included" } else { "excluded" };
-        let roles = set(&Graph::targets(&g.allows, step));
-        lines = lines.say(format_args!("step {step}"), format_args!("roles {roles}, {included}{}", marked.concat()));
-    }
-    for (a, b) in &g.conditions {
-        lines = lines.say(
-            format_args!("condition {a} {b}"),
-            format_args!("if step {a} is included, it must have been done before step {b}"),
-        );
-    }
-    for (a, b) in &g.responses {
-        lines = lines.say(format_args!("response {a} {b}"), format_args!("doing step {a} makes step {b} due"));
-    }
-    for (a, b) in &g.includes {
-        lines = lines.say(format_args!("include {a} {b}"), format_args!("doing step {a} includes step {b}"));
-    }
-    for (a, b) in &g.excludes {
-        lines = lines.say(format_args!("exclude {a} {b}"), format_args!("doing step {a} excludes step {b}"));
-    }
+    let lines = people(counts(Lines::default(), &g), &g);
+    let lines = arrow_by_arrow(steps(lines, &g, &m), &g);
     Ok((lines.say("arrows", arrows(&g)).ending(&m), Vec::new()))
 }
 
@@ -61,4 +36,39 @@ fn counts(lines: Lines, g: &Graph) -> Lines {
 
 fn arrows(g: &Graph) -> usize {
     [&g.conditions, &g.responses, &g.includes, &g.excludes].iter().map(|arrows| arrows.len()).sum()
+}
+
+fn people(lines: Lines, g: &Graph) -> Lines {
+    (0..g.people).fold(lines, |lines, person| {
+        let roles = set(&Graph::targets(&g.holds, person));
+        lines.say(format_args!("person {person}"), format_args!("roles {roles}"))
+    })
+}
+
+fn steps(lines: Lines, g: &Graph, m: &Marking) -> Lines {
+    (0..g.steps).fold(lines, |lines, step| {
+        let roles = set(&Graph::targets(&g.allows, step));
+        let included = if m.included.contains(&step) { "included" } else { "excluded" };
+        let done = if m.done.contains(&step) { ", done" } else { "" };
+        let due = if m.due.contains(&step) { ", due" } else { "" };
+        lines.say(format_args!("step {step}"), format_args!("roles {roles}, {included}{done}{due}"))
+    })
+}
+
+/// What each arrow means, in the sheet's order.
+fn arrow_by_arrow(mut lines: Lines, g: &Graph) -> Lines {
+    for (a, b) in &g.conditions {
+        let meaning = format_args!("if step {a} is included, it must have been done before step {b}");
+        lines = lines.say(format_args!("condition {a} {b}"), meaning);
+    }
+    for (a, b) in &g.responses {
+        lines = lines.say(format_args!("response {a} {b}"), format_args!("doing step {a} makes step {b} due"));
+    }
+    for (a, b) in &g.includes {
+        lines = lines.say(format_args!("include {a} {b}"), format_args!("doing step {a} includes step {b}"));
+    }
+    for (a, b) in &g.excludes {
+        lines = lines.say(format_args!("exclude {a} {b}"), format_args!("doing step {a} excludes step {b}"));
+    }
+    lines
 }
