@@ -20,11 +20,11 @@ pub struct Job {
     pub record: Vec<u8>,
 }
 
-/// The first is the sample job, the second has all 12,288 arrows, the third a journal of full length; the others are of any
-/// kind, and a quarter of them has a damaged sheet.
+/// The first is the sample job with a record that applies everywhere, the second has all 12,288 arrows, the third a journal of
+/// full length; the others are of any kind, and a quarter of them has a damaged sheet.
 pub fn make(dice: &mut Dice, index: u64) -> Job {
     match index {
-        0 => of_graph(dice, &sample::graph(), sample::START, 0),
+        0 => Job { record: vec![0; 65], ..of_graph(dice, &sample::graph(), sample::START, 0) },
         1 => {
             let (graph, marking) = dense(dice);
             of_graph(dice, &graph, marking, 0)
