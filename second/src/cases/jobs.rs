@@ -24,7 +24,10 @@ pub struct Job {
 /// full length; the others are of any kind, and a quarter of them has a damaged sheet.
 pub fn make(dice: &mut Dice, index: u64) -> Job {
     match index {
-        0 => Job { record: vec![0; 65], ..of_graph(dice, &sample::graph(), sample::START, 0) },
+        0 => {
+            let job = of_graph(dice, &sample::graph(), sample::START, 0);
+            Job { marking: bytes(sample::START), record: vec![0; 65], ..job }
+        }
         1 => {
             let (graph, marking) = dense(dice);
             of_graph(dice, &graph, marking, 0)
@@ -92,9 +95,13 @@ fn of_graph(dice: &mut Dice, g: &Graph, start: Marking, faults: usize) -> Job {
     Job {
         sheet: damaged(dice, written(g, &start), faults),
         journals,
-        marking: marking.0.iter().flat_map(|set| set.to_le_bytes()).collect(),
+        marking: bytes(marking),
         record: records::bytes(dice, g.steps, words),
     }
+}
+
+fn bytes(marking: Marking) -> Vec<u8> {
+    marking.0.iter().flat_map(|set| set.to_le_bytes()).collect()
 }
 
 /// Allowed entries, one that is refused in any of the five ways, and others after it.
