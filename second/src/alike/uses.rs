@@ -75,7 +75,7 @@ fn inputs(job: &Job, report: &mut Report, words: &[&str]) -> io::Result<()> {
     report.ask(call(job, &all).input(&job.sheet))
 }
 
-/// A file that is new, one that exists, one that is written over, and one in a folder that is not there; or force in vain.
+/// A file that is new, one that exists, one that is written over, none, and one in a folder that is not there; or force in vain.
 fn outputs(job: &Job, report: &mut Report, words: &[&str], out: &str) -> io::Result<()> {
     if !words.contains(&"OUT") {
         return report.ask(call(job, words).word("--force"));
@@ -86,6 +86,7 @@ fn outputs(job: &Job, report: &mut Report, words: &[&str], out: &str) -> io::Res
     report.ask(shown.clone().out(out))?;
     report.ask(shown.clone().out(out).word("--force"))?;
     report.ask(shown.clone().word("--force").out(out))?;
+    report.ask(shown.clone().word("-"))?;
     report.ask(shown.out("not-there/out"))
 }
 

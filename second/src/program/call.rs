@@ -66,7 +66,8 @@ fn given<'a>(command: &Command, words: &'a [String]) -> Option<Given<'a>> {
     let from_standard_input = given.inputs.iter().filter(|(_, name)| *name == "-").count();
     let options = words.iter().any(|word| word.starts_with("--"));
     let fits = (needed..=takes.len()).contains(&words.len()) && from_standard_input <= 1 && !options;
-    (fits && (given.out.is_some() || !force)).then_some(given)
+    let names_out = given.out.map_or(!force, |name| name != "-");
+    (fits && names_out).then_some(given)
 }
 
 /// "A number above 255 is taken as 255 (and so refused by 2)."
