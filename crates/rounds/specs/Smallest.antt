@@ -1,0 +1,60 @@
+-- The smallest sheet of document 01 is the sheet of its graph, both ways: each side computes. Assumes nothing.
+use Prim.Native.Nat.{ℕ}
+use mathlib.Core.Path.{_≡_, refl}
+use mathlib.Core.List.{List, [], _∷_, _++_}
+use mathlib.Core.Bool.{Bool, true}
+use lib.ListN.{length, replicate}
+use Rattle.sets.specs.Sets.{has, every}
+use Rattle.rules.specs.declared.Graph.{Graph}
+use Rattle.rules.specs.declared.Marking.{Marking}
+use Rattle.rules.specs.declared.Verdict.{Verdict}
+use Rattle.rules.specs.First.{first}
+use Rattle.rules.specs.Graph.{keeps, setsFit}
+use Rattle.numbers.specs.Numbers.{number, bytes}
+use Rattle.layout.specs.Layout.{contents, joined, follows}
+use Rattle.arrows.specs.Arrows.{arrowsIn, spelt, allKnown, ascending, put, putAll, held, listed, arrowsOf, pick}
+use Rattle.bodies.specs.Tables.{tabled}
+use Rattle.bodies.specs.Bodies.{rolesBody, roleSetsFit}
+use Rattle.sheet.specs.declared.Sheet.{Sheet}
+use Rattle.sheet.specs.Sheet.{sheetBytes, layoutFits, readVerdict, ifClear, theSheet, contentLines}
+
+-- 05 01 1A 00 03 00 02 1D 00 18 00 03 35 00 02 00 04 37 00 02 00 05 39 00 00 00, then 01 01 01, sixteen bytes 00, 01 and seven 00, 01 00, 01 00
+unfoldable pub smallest : List ℕ
+smallest =
+    (5 ∷ 1 ∷ 26 ∷ 0 ∷ 3 ∷ 0 ∷ 2 ∷ 29 ∷ 0 ∷ 24 ∷ 0 ∷ 3 ∷ 53 ∷ 0 ∷ 2 ∷ 0 ∷ 4 ∷ 55 ∷ 0 ∷ 2 ∷ 0 ∷ 5 ∷ 57 ∷ 0 ∷ 0 ∷ 0 ∷ [])
+    ++ ((1 ∷ 1 ∷ 1 ∷ []) ++ (replicate 16 0 ++ ((1 ∷ replicate 7 0) ++ ((1 ∷ 0 ∷ []) ++ (1 ∷ 0 ∷ [])))))
+
+-- one step, one person, one role, which the person holds and the step has; no arrow
+unfoldable pub smallestGraph : Graph
+smallestGraph =
+    record {
+      steps = 1;
+      people = 1;
+      roles = 1;
+      allows = 1 ∷ replicate 63 0;
+      holds = 1 ∷ replicate 15 0;
+      conditions = replicate 64 0;
+      responses = replicate 64 0;
+      includes = replicate 64 0;
+      excludes = replicate 64 0;
+    }
+
+-- the step is included
+unfoldable pub smallestMarking : Marking
+smallestMarking = record { done = 0; due = 0; included = 1 }
+
+pub smallest-long : length smallest ≡ 57
+unfolding smallest
+smallest-long = refl
+
+pub smallest-clear : first (contentLines smallestGraph smallestMarking) ≡ Verdict.Clear
+unfolding smallestGraph smallestMarking first setsFit keeps every
+smallest-clear = refl
+
+pub smallest-written : sheetBytes smallestGraph smallestMarking ≡ smallest
+unfolding smallest smallestGraph smallestMarking sheetBytes bytes contents joined rolesBody spelt arrowsOf listed held has pick
+smallest-written = refl
+
+pub smallest-read : theSheet smallest ≡ record { verdict = Verdict.Clear; graph = smallestGraph; first = smallestMarking }
+unfolding smallest smallestGraph smallestMarking readVerdict ifClear first layoutFits follows number roleSetsFit every arrowsIn allKnown ascending putAll put tabled
+smallest-read = refl
