@@ -1,0 +1,138 @@
+-- Each number is given exactly when the table says. The numbers of both tables go up, so that the first line that holds has the lowest number that
+-- holds: it is given exactly if its line holds and none before it. Assumes nothing.
+use Prim.Native.Nat.{ℕ, _≤_, _<_}
+use mathlib.Core.Path.{_≡_, refl, sym, ap, _∙_, subst}
+use mathlib.Core.Logic.{_↔_}
+use mathlib.Core.List.{List, [], _∷_}
+use mathlib.Core.Bool.{Bool, true, false, not, _&&_, _||_}
+use native.Mathlib.Omega.{arith}
+use lib.ListN.{length}
+use lib.Dec.{ltb}
+use Rattle.rules.specs.declared.Graph.{Graph}
+use Rattle.rules.specs.declared.Marking.{Marking}
+use Rattle.rules.specs.declared.Verdict.{Verdict}
+use Rattle.rules.specs.First.{Line, first, number, numberOf}
+use Rattle.rules.specs.Graph.{countsFit, setsFit, kindsApart}
+use Rattle.rules.specs.Move.{markingFits}
+use Rattle.rules.specs.Laws.{holds, ascends, first-holds, first-lowest}
+use Rattle.sheet.specs.Sheet.{graphOf, layoutFits, countsRight, bodiesMatch, setsInside, arrowsRight, readLines, readVerdict, sheetBytes, writeLines, writeVerdict}
+
+-- ---- any table whose numbers go up
+
+-- number k holds in the table, and no lower one
+pub record Lowest (k : ℕ) (lines : List Line) : Type 0 where
+  pub here : holds k lines ≡ true
+  pub least : (j : ℕ) → holds j lines ≡ true → k ≤ j
+
+-- what is given holds
+given-holds : (lines : List Line) (v : Verdict) → first lines ≡ v → 0 < number v → holds (number v) lines ≡ true
+unfolding number
+given-holds lines Verdict.Clear e h = absurd (let z : ⊥ = omega arith in z)
+given-holds lines (Verdict.Refused r) e h = first-holds lines r e
+
+pub given-exactly : (lines : List Line) → ascends 0 lines ≡ true → (k : ℕ) → 0 < k → (number (first lines) ≡ k) ↔ Lowest k lines
+given-exactly lines up k h = (there, back)
+  where
+    there : number (first lines) ≡ k → Lowest k lines
+    there e = record {
+      here = subst (λ (j : ℕ). holds j lines ≡ true) e (given-holds lines (first lines) refl (subst (λ (j : ℕ). 0 < j) (sym e) h));
+      least = λ j t. subst (λ (n : ℕ). n ≤ j) e (first-lowest 0 lines up j t .1);
+    }
+
+    back : Lowest k lines → number (first lines) ≡ k
+    back l =
+        let low = first-lowest 0 lines up k (l .here) in
+        let high : k ≤ number (first lines) = l .least (number (first lines)) (given-holds lines (first lines) refl (low .0)) in
+        let most : number (first lines) ≤ k = low .1 in
+        omega arith
+
+-- nothing is given exactly if no number holds
+pub nothing-exactly : (lines : List Line) → ascends 0 lines ≡ true → (number (first lines) ≡ 0) ↔ ((j : ℕ) → holds j lines ≡ false)
+unfolding number
+nothing-exactly lines up = (there, back (first lines) refl)
+  where
+    there : number (first lines) ≡ 0 → (j : ℕ) → holds j lines ≡ false
+    there e j = go (holds j lines) refl
+      where
+        go : (b : Bool) → holds j lines ≡ b → holds j lines ≡ false
+        go true t = absurd (let z : 0 < number (first lines) = first-lowest 0 lines up j t .0 in let w : ⊥ = omega arith in w)
+        go false t = t
+
+    back : (v : Verdict) → first lines ≡ v → ((j : ℕ) → holds j lines ≡ false) → number (first lines) ≡ 0
+    back Verdict.Clear e none = ap number e
+    back (Verdict.Refused r) e none = absurd (let z : _≡_ {A = Bool} true false = sym (first-holds lines r e) ∙ none (numberOf r) in let w : _≡_ {A = ℕ} 0 1 = cc in let x : ⊥ = omega arith in x)
+
+-- ---- reading
+
+read-up : (s : List ℕ) → ascends 0 (readLines s) ≡ true
+unfolding ascends numberOf
+read-up s = refl
+
+or-false : (b : Bool) → (b || false) ≡ b
+or-false true = refl
+or-false false = refl
+
+module _ (s : List ℕ) where
+  pub read-exactly : (k : ℕ) → 0 < k → (number (readVerdict s) ≡ k) ↔ Lowest k (readLines s)
+  unfolding readVerdict
+  read-exactly = given-exactly (readLines s) (read-up s)
+
+  pub read-nothing : (number (readVerdict s) ≡ 0) ↔ ((j : ℕ) → holds j (readLines s) ≡ false)
+  unfolding readVerdict
+  read-nothing = nothing-exactly (readLines s) (read-up s)
+
+  -- and each number holds as the table of document 01 has it
+  pub read-1 : holds 1 (readLines s) ≡ not (layoutFits s)
+  unfolding holds numberOf
+  read-1 = or-false (not (layoutFits s))
+
+  pub read-2 : holds 2 (readLines s) ≡ not (countsRight s)
+  unfolding holds numberOf
+  read-2 = or-false (not (countsRight s))
+
+  pub read-3 : holds 3 (readLines s) ≡ not (bodiesMatch s)
+  unfolding holds numberOf
+  read-3 = or-false (not (bodiesMatch s))
+
+  pub read-4 : holds 4 (readLines s) ≡ not (setsInside s)
+  unfolding holds numberOf
+  read-4 = or-false (not (setsInside s))
+
+  pub read-5 : holds 5 (readLines s) ≡ not (arrowsRight s)
+  unfolding holds numberOf
+  read-5 = or-false (not (arrowsRight s))
+
+  pub read-6 : holds 6 (readLines s) ≡ not (kindsApart (graphOf s .steps) (graphOf s .includes) (graphOf s .excludes))
+  unfolding holds numberOf
+  read-6 = or-false (not (kindsApart (graphOf s .steps) (graphOf s .includes) (graphOf s .excludes)))
+
+-- ---- writing
+
+write-up : (g : Graph) (m : Marking) (room : ℕ) → ascends 0 (writeLines g m room) ≡ true
+unfolding ascends numberOf
+write-up g m room = refl
+
+module _ (g : Graph) (m : Marking) (room : ℕ) where
+  pub write-exactly : (k : ℕ) → 0 < k → (number (writeVerdict g m room) ≡ k) ↔ Lowest k (writeLines g m room)
+  unfolding writeVerdict
+  write-exactly = given-exactly (writeLines g m room) (write-up g m room)
+
+  pub write-nothing : (number (writeVerdict g m room) ≡ 0) ↔ ((j : ℕ) → holds j (writeLines g m room) ≡ false)
+  unfolding writeVerdict
+  write-nothing = nothing-exactly (writeLines g m room) (write-up g m room)
+
+  pub write-2 : holds 2 (writeLines g m room) ≡ not (countsFit (g .steps) (g .people) (g .roles))
+  unfolding holds numberOf
+  write-2 = or-false (not (countsFit (g .steps) (g .people) (g .roles)))
+
+  pub write-4 : holds 4 (writeLines g m room) ≡ not (setsFit g && markingFits (g .steps) m)
+  unfolding holds numberOf
+  write-4 = or-false (not (setsFit g && markingFits (g .steps) m))
+
+  pub write-6 : holds 6 (writeLines g m room) ≡ not (kindsApart (g .steps) (g .includes) (g .excludes))
+  unfolding holds numberOf
+  write-6 = or-false (not (kindsApart (g .steps) (g .includes) (g .excludes)))
+
+  pub write-18 : holds 18 (writeLines g m room) ≡ ltb room (length (sheetBytes g m))
+  unfolding holds numberOf
+  write-18 = or-false (ltb room (length (sheetBytes g m)))
