@@ -230,7 +230,7 @@ turned-end n rows a h = List·getD-eq-default (putAll (replicate 64 0) (kindArro
 
 -- ---- the arrows of four tables, kind by kind
 
-four-row : (c r i x : List ℕ) (kind a : ℕ) → a < 64 → fourTables c r i x (kind * 64 + a) ≡ row (pick kind c r i x) a
+pub four-row : (c r i x : List ℕ) (kind a : ℕ) → a < 64 → fourTables c r i x (kind * 64 + a) ≡ row (pick kind c r i x) a
 four-row c r i x kind a h =
     ap₂ (λ (k j : ℕ). row (pick k c r i x) j) (let z : (kind * 64 + a) / 64 ≡ kind = omega arith in z) (let z : (kind * 64 + a) % 64 ≡ a = omega arith in z)
 

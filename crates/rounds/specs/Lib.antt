@@ -1,2 +1,3 @@
 pub mod Smallest
 pub mod Numbers
+pub mod Bodies
