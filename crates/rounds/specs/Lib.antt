@@ -1,3 +1,4 @@
 pub mod Smallest
 pub mod Numbers
 pub mod Bodies
+pub mod Arrows
