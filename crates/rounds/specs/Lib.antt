@@ -2,3 +2,4 @@ pub mod Smallest
 pub mod Numbers
 pub mod Bodies
 pub mod Arrows
+pub mod Longest
