@@ -3,3 +3,4 @@ pub mod Numbers
 pub mod Bodies
 pub mod Arrows
 pub mod Longest
+pub mod Read
