@@ -4,3 +4,4 @@ pub mod Bodies
 pub mod Arrows
 pub mod Longest
 pub mod Read
+pub mod Write
