@@ -5,3 +5,4 @@ pub mod Arrows
 pub mod Longest
 pub mod Read
 pub mod Write
+pub mod Exactly

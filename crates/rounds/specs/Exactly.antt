@@ -1,0 +1,94 @@
+-- A graph with its first marking has exactly one sheet: a list of bytes says them if and only if it is what is written of them. Every part of a sheet is made
+-- of numbers as bytes, and of arrows whose kinds and steps are below 64. Assumes that the graph's tables have 64 and 16 rows.
+use Prim.Native.Nat.{ℕ, zero, suc, _+_, _*_, _/_, _%_, _≤_, _<_}
+use mathlib.Core.Path.{_≡_, refl, sym, ap, _∙_, subst}
+use mathlib.Core.Logic.{_↔_}
+use mathlib.Core.List.{List, [], _∷_, _++_, map}
+use mathlib.Core.Bool.{Bool, true, false}
+use native.Mathlib.Omega.{arith}
+use lib.ListN.{length, getD}
+use lib.Dec.{lit<}
+use Rattle.rules.specs.declared.Graph.{Graph}
+use Rattle.rules.specs.declared.Marking.{Marking}
+use Rattle.rules.specs.declared.Verdict.{Verdict}
+use Rattle.rules.specs.First.{first}
+use Rattle.rules.specs.Graph.{row}
+use Rattle.numbers.specs.Numbers.{bytes, Bytes}
+use Rattle.arrows.specs.Arrows.{spelt, held, arrowAt, keptIf, listed, arrowsOf, fourTables}
+use Rattle.layout.specs.Layout.{contents, joined, start, front, laid}
+use Rattle.bodies.specs.Bodies.{countsBody, markingBody, rolesBody}
+use Rattle.sheet.specs.Sheet.{arrowsBody, bodiesOf, sheetBytes, contentLines}
+use Rattle.rounds.specs.Read.{Tables, read-written}
+use Rattle.rounds.specs.Write.{Says, one-sheet}
+
+-- ---- what is written is bytes
+
+none-bytes : Bytes []
+none-bytes i = lit< tt
+
+more-bytes : (x : ℕ) (s : List ℕ) → x < 256 → Bytes s → Bytes (x ∷ s)
+more-bytes x s h b zero = h
+more-bytes x s h b (suc i) = b i
+
+append-bytes : (s t : List ℕ) → Bytes s → Bytes t → Bytes (s ++ t)
+append-bytes [] t b c = c
+append-bytes (x ∷ s) t b c = more-bytes x (s ++ t) (b 0) (append-bytes s t (λ i. b (suc i)) c)
+
+number-is-bytes : (w x : ℕ) → Bytes (bytes w x)
+unfolding bytes
+number-is-bytes zero x = none-bytes
+number-is-bytes (suc w) x = more-bytes (x % 256) (bytes w (x / 256)) (omega arith) (number-is-bytes w (x / 256))
+
+contents-bytes : (kind offset : ℕ) (sizes : List ℕ) → Bytes (contents kind offset sizes)
+unfolding contents
+contents-bytes kind offset [] = none-bytes
+contents-bytes kind offset (size ∷ rest) =
+    append-bytes (bytes 1 kind ++ (bytes 2 offset ++ bytes 2 size)) (contents (kind + 1) (offset + size) rest)
+    (append-bytes (bytes 1 kind) (bytes 2 offset ++ bytes 2 size) (number-is-bytes 1 kind) (append-bytes (bytes 2 offset) (bytes 2 size) (number-is-bytes 2 offset) (number-is-bytes 2 size)))
+    (contents-bytes (kind + 1) (offset + size) rest)
+
+roles-bytes : (n : ℕ) (table : List ℕ) → Bytes (rolesBody n table)
+unfolding rolesBody
+roles-bytes zero table = none-bytes
+roles-bytes (suc k) table = append-bytes (rolesBody k table) (bytes 2 (row table k)) (roles-bytes k table) (number-is-bytes 2 (row table k))
+
+-- the places below 16,384 are those of arrows that fit three bytes
+places-bytes : (k s : ℕ) (f : ℕ → Bool) → s + k ≤ 16384 → Bytes (spelt (map arrowAt (listed k s f)))
+unfolding listed spelt
+places-bytes zero s f h = none-bytes
+places-bytes (suc k) s f h = go (f s) (places-bytes k (suc s) f (omega arith))
+  where
+    go : (b : Bool) → Bytes (spelt (map arrowAt (listed k (suc s) f))) → Bytes (spelt (map arrowAt (keptIf b s (listed k (suc s) f))))
+    go true rest =
+        more-bytes (s / 4096) (s / 64 % 64 ∷ s % 64 ∷ spelt (map arrowAt (listed k (suc s) f))) (omega arith)
+        (more-bytes (s / 64 % 64) (s % 64 ∷ spelt (map arrowAt (listed k (suc s) f))) (omega arith) (more-bytes (s % 64) (spelt (map arrowAt (listed k (suc s) f))) (omega arith) rest))
+    go false rest = rest
+
+arrows-bytes : (rows : ℕ → ℕ) → Bytes (spelt (arrowsOf rows))
+unfolding arrowsOf
+arrows-bytes rows = places-bytes 16384 0 (λ p. held rows (arrowAt p)) (omega arith)
+
+pub sheet-is-bytes : (g : Graph) (m : Marking) → Bytes (sheetBytes g m)
+unfolding sheetBytes joined
+sheet-is-bytes g m =
+    let sizes : List ℕ = map length (bodiesOf g m) in
+    let counts : List ℕ = countsBody (g .steps) (g .people) (g .roles) in
+    let allows : List ℕ = rolesBody (g .steps) (g .allows) in
+    let holds : List ℕ = rolesBody (g .people) (g .holds) in
+    append-bytes (front sizes) (counts ++ (markingBody m ++ (allows ++ (holds ++ (arrowsBody g ++ [])))))
+    (append-bytes (bytes 1 (length sizes)) (contents 1 (start (length sizes)) sizes) (number-is-bytes 1 (length sizes)) (contents-bytes 1 (start (length sizes)) sizes))
+    (append-bytes counts (markingBody m ++ (allows ++ (holds ++ (arrowsBody g ++ []))))
+    (append-bytes (bytes 1 (g .steps)) (bytes 1 (g .people) ++ bytes 1 (g .roles)) (number-is-bytes 1 (g .steps)) (append-bytes (bytes 1 (g .people)) (bytes 1 (g .roles)) (number-is-bytes 1 (g .people)) (number-is-bytes 1 (g .roles))))
+    (append-bytes (markingBody m) (allows ++ (holds ++ (arrowsBody g ++ [])))
+    (append-bytes (bytes 8 (m .done)) (bytes 8 (m .due) ++ bytes 8 (m .included)) (number-is-bytes 8 (m .done)) (append-bytes (bytes 8 (m .due)) (bytes 8 (m .included)) (number-is-bytes 8 (m .due)) (number-is-bytes 8 (m .included))))
+    (append-bytes allows (holds ++ (arrowsBody g ++ [])) (roles-bytes (g .steps) (g .allows))
+    (append-bytes holds (arrowsBody g ++ []) (roles-bytes (g .people) (g .holds))
+    (append-bytes (arrowsBody g) [] (arrows-bytes (fourTables (g .conditions) (g .responses) (g .includes) (g .excludes))) none-bytes)))))
+
+-- ---- exactly one sheet
+
+pub exactly-one : (g : Graph) (m : Marking) → first (contentLines g m) ≡ Verdict.Clear → Tables g → (s : List ℕ) → (Bytes s × Says s g m) ↔ (s ≡ sheetBytes g m)
+exactly-one g m e sized s = (
+  λ p. one-sheet s g m (p .0) (p .1),
+  λ q. (subst Bytes (sym q) (sheet-is-bytes g m), subst (λ (t : List ℕ). Says t g m) (sym q) (read-written g m e sized)),
+)
