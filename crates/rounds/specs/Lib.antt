@@ -6,3 +6,5 @@ pub mod Longest
 pub mod Read
 pub mod Write
 pub mod Exactly
+pub mod Ascent
+pub mod Contents
