@@ -2,19 +2,20 @@
 -- Both follow from the arrows' own codec, since a table that keeps to n steps holds only arrows between them, and the other way round. Assumes nothing.
 use Prim.Native.Nat.{ℕ, zero, suc, _+_, _*_, _/_, _%_, _^_, _≤_, _<_}
 use mathlib.Core.Path.{_≡_, refl, sym, ap, ap₂, _∙_, subst}
-use mathlib.Core.List.{List, [], _∷_, _++_, map}
-use mathlib.Core.Bool.{Bool, true, false, _&&_, _||_, cond, true≢false, false≢true}
-use native.Mathlib.Nat.{not-suc-le-zero, lt-of-lt-of-le}
+use mathlib.Core.Logic.{_⊎_, inl, inr}
+use mathlib.Core.List.{List, [], _∷_, map}
+use mathlib.Core.Bool.{Bool, true, _&&_, cond, true≢false, false≢true}
+use native.Mathlib.Nat.{lt-of-lt-of-le}
 use native.Mathlib.Omega.{arith}
 use native.Mathlib.Decide.{decLt, ℕ-discrete}
 use lib.ListN.{length}
 use lib.Dec.{eqb, ltb, leb, lit<}
 use lib.Pow.{pow-pos, pow-mono}
 use borrow.Author.Tests.{lt-ltb, le-ltb, le-leb, ltb-true, eqb-true}
-use Rattle.sets.specs.Sets.{has, within, every}
+use Rattle.sets.specs.Sets.{has, within}
 use Rattle.sets.specs.Laws.{and-left, and-right, and-intro, has-zero, has-above, ext, lt-of-members, every-of}
 use Rattle.rules.specs.Graph.{row, keeps}
-use Rattle.arrows.specs.Arrows.{Arrow, known, allKnown, ascending, arrowsFit, rowAt, columnAt, tableOf, held, place, arrowAt, listed, arrowsOf, pick, fourTables}
+use Rattle.arrows.specs.Arrows.{Arrow, known, allKnown, arrowsFit, rowAt, columnAt, tableOf, held, place, arrowAt, arrowsOf, pick, fourTables}
 use Rattle.arrows.specs.Lists.{member, listed-same}
 use Rattle.arrows.specs.Places.{Ranged, known-ranged, arrowAt-place, arrowAt-ranged}
 use Rattle.arrows.specs.Table.{row-condition, row-other, column-condition, column-other, row-lt, known-in, rows-filled, held-filled, arrowOn, on-ranged, on-held}
@@ -22,10 +23,7 @@ use Rattle.arrows.specs.Codec.{arrows-of-table, arrows-fit, table-of-arrows}
 use Rattle.arrows.specs.Rows.{Kept, four-row}
 use Rattle.bodies.specs.Tables.{row-tabled, row-beyond, tabled-same, tabled-rows}
 use Rattle.bodies.specs.Bodies.{quarter}
-
-is-false : (b : Bool) → (b ≡ true → ⊥) → b ≡ false
-is-false true f = absurd (f refl)
-is-false false f = refl
+use Rattle.rounds.specs.Truth.{is-false, or-cases}
 
 -- ---- a table that keeps to n steps
 
@@ -51,9 +49,6 @@ kept-keeps n t k = every-of (length t) (λ i. within (cond (ltb i n) n 0) (row t
 -- ---- four tables, written and read
 
 module _ (n : ℕ) (c r i x : List ℕ) (h : n ≤ 64) (kept : (kind : ℕ) → Kept n (pick kind c r i x)) where
-  known-of : (y : Arrow) → Ranged y → (a b : ℕ) → has (row (pick (y .kind) c r i x) a) b ≡ true → ((a < n) × (b < n) → known n y ≡ true) → known n y ≡ true
-  known-of y q a b e f = f (kept-names n (pick (y .kind) c r i x) (kept (y .kind)) a b e)
-
   -- each arrow of the tables is between steps that there are
   pub four-known : (y : Arrow) → Ranged y → held (fourTables c r i x) y ≡ true → known n y ≡ true
   unfolding held
@@ -67,12 +62,12 @@ module _ (n : ℕ) (c r i x : List ℕ) (h : n ≤ 64) (kept : (kind : ℕ) → 
           let at : fourTables c r i x (rowAt y) ≡ row (pick (y .kind) c r i x) (y .to) =
           ap (fourTables c r i x) (row-condition y z ∙ (let w : y .to ≡ 0 * 64 + y .to = omega arith in w))
           ∙ four-row c r i x 0 (y .to) (q .to-in) ∙ ap (λ (k : ℕ). row (pick k c r i x) (y .to)) (sym z) in
-          known-of y q (y .to) (y .from) (sym (ap₂ has at (column-condition y z)) ∙ e)
-          (λ p. and-intro (and-intro kind-known (lt-ltb (y .from) n (p .1))) (lt-ltb (y .to) n (p .0)))
+          let p = kept-names n (pick (y .kind) c r i x) (kept (y .kind)) (y .to) (y .from) (sym (ap₂ has at (column-condition y z)) ∙ e) in
+          and-intro (and-intro kind-known (lt-ltb (y .from) n (p .1))) (lt-ltb (y .to) n (p .0))
       go (no z) =
           let at : fourTables c r i x (rowAt y) ≡ row (pick (y .kind) c r i x) (y .from) = ap (fourTables c r i x) (row-other y z) ∙ four-row c r i x (y .kind) (y .from) (q .from-in) in
-          known-of y q (y .from) (y .to) (sym (ap₂ has at (column-other y z)) ∙ e)
-          (λ p. and-intro (and-intro kind-known (lt-ltb (y .from) n (p .0))) (lt-ltb (y .to) n (p .1)))
+          let p = kept-names n (pick (y .kind) c r i x) (kept (y .kind)) (y .from) (y .to) (sym (ap₂ has at (column-other y z)) ∙ e) in
+          and-intro (and-intro kind-known (lt-ltb (y .from) n (p .0))) (lt-ltb (y .to) n (p .1))
 
   pub four-fit : arrowsFit n (arrowsOf (fourTables c r i x)) ≡ true
   four-fit = arrows-fit n (fourTables c r i x) h four-known
@@ -119,18 +114,16 @@ four-written n l h e = arrows-same (fourOf l) (row (tableOf l)) (four-quarters (
 
 -- ---- the tables that known arrows fill keep to the steps that there are
 
-or-split : (a b : Bool) (G : Type 0) → (a || b) ≡ true → (a ≡ true → G) → (b ≡ true → G) → G
-or-split true b G e f g = f refl
-or-split false b G e f g = g e
-
 member-known : (n : ℕ) (l : List Arrow) (y : Arrow) → n ≤ 64 → allKnown n l ≡ true → Ranged y → member (map place l) (place y) ≡ true → known n y ≡ true
 unfolding allKnown member
 member-known n [] y h k q e = absurd (false≢true e)
 member-known n (z ∷ rest) y h k q e =
     let first : known n z ≡ true = and-left (known n z) (allKnown n rest) k in
-    or-split (eqb (place z) (place y)) (member (map place rest) (place y)) (known n y ≡ true) e
-    (λ t. subst (λ (w : Arrow). known n w ≡ true) (sym (arrowAt-place z (known-ranged n z h first)) ∙ ap arrowAt (eqb-true (place z) (place y) t) ∙ arrowAt-place y q) first)
-    (λ t. member-known n rest y h (and-right (known n z) (allKnown n rest) k) q t)
+    go first (or-cases (eqb (place z) (place y)) (member (map place rest) (place y)) e) (member-known n rest y h (and-right (known n z) (allKnown n rest) k) q)
+  where
+    go : known n z ≡ true → (eqb (place z) (place y) ≡ true) ⊎ (member (map place rest) (place y) ≡ true) → (member (map place rest) (place y) ≡ true → known n y ≡ true) → known n y ≡ true
+    go first (inl t) later = subst (λ (w : Arrow). known n w ≡ true) (sym (arrowAt-place z (known-ranged n z h first)) ∙ ap arrowAt (eqb-true (place z) (place y) t) ∙ arrowAt-place y q) first
+    go first (inr t) later = later t
 
 on-known : (n i s : ℕ) → i < 256 → known n (arrowOn i s) ≡ true → (i % 64 < n) × (s < n)
 on-known n i s h e = go (decLt i 64)

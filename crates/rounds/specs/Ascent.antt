@@ -1,10 +1,10 @@
 -- The test of number 5 in words: the arrows fit exactly if each has a kind of at most 3 and steps that there are, and any earlier one comes before any later
 -- one as triples. The test looks at neighbours only; the order of triples carries it on to every pair. Assumes nothing.
 use Prim.Native.Nat.{ℕ, zero, suc, _≤_, _<_}
-use mathlib.Core.Path.{_≡_, refl, ap, ap₂, _∙_}
+use mathlib.Core.Path.{_≡_, refl, _∙_}
 use mathlib.Core.Logic.{_↔_, _⊎_, inl, inr}
 use mathlib.Core.List.{List, [], _∷_}
-use mathlib.Core.Bool.{Bool, true, false, _&&_, _||_, false≢true}
+use mathlib.Core.Bool.{Bool, true, _&&_, _||_}
 use native.Mathlib.Nat.{not-suc-le-zero, le-of-suc-le-suc}
 use native.Mathlib.Omega.{arith}
 use lib.ListN.{length, getD}
@@ -12,22 +12,12 @@ use lib.Dec.{eqb, ltb, leb}
 use borrow.Author.Tests.{lt-ltb, le-leb, eq-eqb, ltb-true, leb-true, eqb-true}
 use Rattle.sets.specs.Laws.{and-left, and-right, and-intro}
 use Rattle.arrows.specs.Arrows.{Arrow, known, before, allKnown, ascending, arrowsFit}
+use Rattle.rounds.specs.Truth.{or-cases, or-first, or-second}
 
 -- ---- the order of triples
 
 abbrev pub Before : Arrow → Arrow → Type 0
 Before x y = (x .kind < y .kind) ⊎ ((x .kind ≡ y .kind) × ((x .from < y .from) ⊎ ((x .from ≡ y .from) × (x .to < y .to))))
-
-or-cases : (a b : Bool) → (a || b) ≡ true → (a ≡ true) ⊎ (b ≡ true)
-or-cases true b e = inl refl
-or-cases false b e = inr e
-
-or-first : {a : Bool} (b : Bool) → a ≡ true → (a || b) ≡ true
-or-first b e = ap (λ (x : Bool). x || b) e
-
-or-second : (a : Bool) {b : Bool} → b ≡ true → (a || b) ≡ true
-or-second true e = refl
-or-second false e = e
 
 module _ (x y : Arrow) where
   abbrev inner : Bool

@@ -10,8 +10,8 @@ use native.Mathlib.Decide.{decLt}
 use lib.ListN.{length, getD, take, drop, length-drop, List·getD-eq-default}
 use lib.Seq.{getD-take, take-add, take-all, drop-drop}
 use lib.Dec.{ltb, lit<}
-use borrow.Author.Tests.{lt-ltb, le-ltb, ltb-true}
-use Rattle.sets.specs.Sets.{within, every}
+use borrow.Author.Tests.{lt-ltb, le-ltb}
+use Rattle.sets.specs.Sets.{within}
 use Rattle.sets.specs.Laws.{every-at, every-of}
 use Rattle.rules.specs.declared.Marking.{Marking}
 use Rattle.rules.specs.Graph.{row, keeps}
@@ -19,8 +19,7 @@ use Rattle.numbers.specs.Numbers.{number, bytes, Bytes}
 use Rattle.numbers.specs.Laws.{number-bytes, bytes-number}
 use Rattle.layout.specs.Lists.{drop-past}
 use Rattle.layout.specs.Laws.{drop-bytes}
-use Rattle.bodies.specs.declared.Counts.{Counts}
-use Rattle.bodies.specs.Tables.{tabled, length-tabled, row-tabled, tabled-same, tabled-rows}
+use Rattle.bodies.specs.Tables.{length-tabled, row-tabled, tabled-same, tabled-rows}
 use Rattle.bodies.specs.Bodies.{countsBody, countsIn, markingBody, markingIn, rolesBody, setAt, setsIn, roleSetsFit}
 use Rattle.bodies.specs.Laws.{set-past, length-roles}
 

@@ -1,12 +1,12 @@
 -- A graph with its first marking has exactly one sheet: a list of bytes says them if and only if it is what is written of them. Every part of a sheet is made
 -- of numbers as bytes, and of arrows whose kinds and steps are below 64. Assumes that the graph's tables have 64 and 16 rows.
-use Prim.Native.Nat.{ℕ, zero, suc, _+_, _*_, _/_, _%_, _≤_, _<_}
-use mathlib.Core.Path.{_≡_, refl, sym, ap, _∙_, subst}
+use Prim.Native.Nat.{ℕ, zero, suc, _+_, _/_, _%_, _≤_, _<_}
+use mathlib.Core.Path.{_≡_, sym, subst}
 use mathlib.Core.Logic.{_↔_}
 use mathlib.Core.List.{List, [], _∷_, _++_, map}
 use mathlib.Core.Bool.{Bool, true, false}
 use native.Mathlib.Omega.{arith}
-use lib.ListN.{length, getD}
+use lib.ListN.{length}
 use lib.Dec.{lit<}
 use Rattle.rules.specs.declared.Graph.{Graph}
 use Rattle.rules.specs.declared.Marking.{Marking}
@@ -15,7 +15,7 @@ use Rattle.rules.specs.First.{first}
 use Rattle.rules.specs.Graph.{row}
 use Rattle.numbers.specs.Numbers.{bytes, Bytes}
 use Rattle.arrows.specs.Arrows.{spelt, held, arrowAt, keptIf, listed, arrowsOf, fourTables}
-use Rattle.layout.specs.Layout.{contents, joined, start, front, laid}
+use Rattle.layout.specs.Layout.{contents, joined, start, front}
 use Rattle.bodies.specs.Bodies.{countsBody, markingBody, rolesBody}
 use Rattle.sheet.specs.Sheet.{arrowsBody, bodiesOf, sheetBytes, contentLines}
 use Rattle.rounds.specs.Read.{Tables, read-written}

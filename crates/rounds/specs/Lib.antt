@@ -1,3 +1,4 @@
+pub mod Truth
 pub mod Smallest
 pub mod Numbers
 pub mod Bodies
@@ -8,3 +9,4 @@ pub mod Write
 pub mod Exactly
 pub mod Ascent
 pub mod Contents
+pub mod Said

@@ -1,9 +1,8 @@
 -- The longest sheet has 37,077 bytes. Every part but the arrows has a length by the counts; a table has at most 64 arrows from each of 64 steps, and
 -- includes and excludes, which share no pair, have together no more than one table. One graph reaches it. Assumes nothing.
-use Prim.Native.Nat.{ℕ, zero, suc, _+_, _*_, _^_, _≤_, _<_}
-use mathlib.Core.Path.{_≡_, refl, sym, ap, ap₂, _∙_}
-use mathlib.Core.List.{List}
-use mathlib.Core.Bool.{Bool, true, false, _&&_, true≢false}
+use Prim.Native.Nat.{ℕ, zero, suc, _+_, _*_, _≤_, _<_}
+use mathlib.Core.Path.{_≡_, refl, sym, _∙_}
+use mathlib.Core.Bool.{true, true≢false}
 use native.Mathlib.Omega.{arith}
 use lib.ListN.{length, replicate}
 use Rattle.sets.specs.Sets.{has, full, meet, empty, every}
@@ -14,7 +13,6 @@ use Rattle.rules.specs.declared.Verdict.{Verdict}
 use Rattle.rules.specs.First.{first}
 use Rattle.rules.specs.Graph.{row, keeps, setsFit}
 use Rattle.rules.specs.Move.{noMarking}
-use Rattle.rules.specs.Laws.{Counted}
 use Rattle.arrows.specs.Arrows.{put, putAll, listed}
 use Rattle.arrows.specs.Lists.{listed-apart}
 use Rattle.arrows.specs.Rows.{members, kindArrows, countOf, turned}
@@ -36,7 +34,6 @@ count-apart (suc n) p q apart =
 pub longest : (g : Graph) (m : Marking) → first (contentLines g m) ≡ Verdict.Clear → length (sheetBytes g m) ≤ 37077
 longest g m e =
     let c : Content g m = clear-content g m e in
-    let n : ℕ = g .steps in
     let size : length (sheetBytes g m) ≡ 53 + 2 * g .steps + 2 * g .people + 3 * countIn g = sheet-length g m c in
     let first : countOf (g .steps) (row (turnedOf g)) ≤ 64 * g .steps = count-most (g .steps) (row (turnedOf g)) in
     let second : countOf (g .steps) (row (g .responses)) ≤ 64 * g .steps = count-most (g .steps) (row (g .responses)) in

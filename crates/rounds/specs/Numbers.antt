@@ -3,8 +3,8 @@
 use Prim.Native.Nat.{ℕ, _≤_, _<_}
 use mathlib.Core.Path.{_≡_, refl, sym, ap, _∙_, subst}
 use mathlib.Core.Logic.{_↔_}
-use mathlib.Core.List.{List, [], _∷_}
-use mathlib.Core.Bool.{Bool, true, false, not, _&&_, _||_}
+use mathlib.Core.List.{List}
+use mathlib.Core.Bool.{Bool, true, false, not, _&&_}
 use native.Mathlib.Omega.{arith}
 use lib.ListN.{length}
 use lib.Dec.{ltb}
@@ -16,6 +16,7 @@ use Rattle.rules.specs.Graph.{countsFit, setsFit, kindsApart}
 use Rattle.rules.specs.Move.{markingFits}
 use Rattle.rules.specs.Laws.{holds, ascends, first-holds, first-lowest}
 use Rattle.sheet.specs.Sheet.{graphOf, layoutFits, countsRight, bodiesMatch, setsInside, arrowsRight, readLines, readVerdict, sheetBytes, writeLines, writeVerdict}
+use Rattle.rounds.specs.Truth.{or-false}
 
 -- ---- any table whose numbers go up
 
@@ -67,10 +68,6 @@ nothing-exactly lines up = (there, back (first lines) refl)
 read-up : (s : List ℕ) → ascends 0 (readLines s) ≡ true
 unfolding ascends numberOf
 read-up s = refl
-
-or-false : (b : Bool) → (b || false) ≡ b
-or-false true = refl
-or-false false = refl
 
 module _ (s : List ℕ) where
   pub read-exactly : (k : ℕ) → 0 < k → (number (readVerdict s) ≡ k) ↔ Lowest k (readLines s)

@@ -3,12 +3,12 @@
 -- machine's have: that each row fits its word follows, since it names nothing beyond the counts.
 use Prim.Native.Nat.{ℕ, zero, suc, _+_, _*_, _%_, _^_, _≤_, _<_}
 use mathlib.Core.Path.{_≡_, refl, sym, ap, ap₂, _∙_, subst}
-use mathlib.Core.List.{List, [], _∷_, _++_}
-use mathlib.Core.Bool.{Bool, true, _&&_}
+use mathlib.Core.List.{List, []}
+use mathlib.Core.Bool.{true}
 use native.Mathlib.Nat.{lt-of-lt-of-le}
 use native.Mathlib.Omega.{arith}
 use lib.ListN.{length, getD}
-use lib.Dec.{eqb, leb}
+use lib.Dec.{eqb}
 use lib.Pow.{pow-mono}
 use borrow.Author.Tests.{eq-eqb, le-leb, not-false}
 use Rattle.sets.specs.Laws.{and-right, and-intro}
@@ -29,7 +29,6 @@ use Rattle.layout.specs.Laws.{bodiesFrom, laid-fits, laid-bodies, body-inside}
 use Rattle.bodies.specs.declared.Counts.{Counts}
 use Rattle.bodies.specs.Bodies.{countsBody, countsIn, markingBody, markingIn, rolesBody, setsIn, roleSetsFit, quarter}
 use Rattle.bodies.specs.Laws.{length-counts, length-marking, length-roles}
-use Rattle.sheet.specs.declared.Sheet.{Sheet}
 use Rattle.sheet.specs.Sheet.{arrowsBody, bodiesOf, sheetBytes, countsOf, firstOf, arrowsOn, graphOf, layoutFits, countsRight, bodiesMatch, setsInside, arrowsRight, readVerdict, noGraph, theSheet, contentLines}
 use Rattle.sheet.specs.More.{keeps-gone}
 use Rattle.sheet.specs.Judge.{judged-clear, if-clear}

@@ -2,7 +2,6 @@
 use Prim.Native.Nat.{ℕ}
 use mathlib.Core.Path.{_≡_, refl}
 use mathlib.Core.List.{List, [], _∷_, _++_}
-use mathlib.Core.Bool.{Bool, true}
 use lib.ListN.{length, replicate}
 use Rattle.sets.specs.Sets.{has, every}
 use Rattle.rules.specs.declared.Graph.{Graph}
@@ -15,7 +14,6 @@ use Rattle.layout.specs.Layout.{contents, joined, follows}
 use Rattle.arrows.specs.Arrows.{arrowsIn, spelt, allKnown, ascending, put, putAll, held, listed, arrowsOf, pick}
 use Rattle.bodies.specs.Tables.{tabled}
 use Rattle.bodies.specs.Bodies.{rolesBody, roleSetsFit}
-use Rattle.sheet.specs.declared.Sheet.{Sheet}
 use Rattle.sheet.specs.Sheet.{sheetBytes, layoutFits, readVerdict, ifClear, theSheet, contentLines}
 
 -- 05 01 1A 00 03 00 02 1D 00 18 00 03 35 00 02 00 04 37 00 02 00 05 39 00 00 00, then 01 01 01, sixteen bytes 00, 01 and seven 00, 01 00, 01 00

@@ -1,9 +1,9 @@
 -- Writing what was read gives the bytes, so that a graph with its first marking has one sheet. A sheet whose contents fit is laid out from its bodies; each
 -- body is what is written of what it says; and nothing is against what was read of a sheet that nothing is against. Assumes that a sheet is made of bytes.
-use Prim.Native.Nat.{ℕ, zero, suc, _+_, _*_, _%_, _≤_, _<_}
-use mathlib.Core.Path.{_≡_, refl, sym, ap, ap₂, _∙_, subst}
+use Prim.Native.Nat.{ℕ, _+_, _*_, _%_, _≤_, _<_}
+use mathlib.Core.Path.{_≡_, sym, ap, ap₂, _∙_, subst}
 use mathlib.Core.List.{List, [], _∷_, _++_}
-use mathlib.Core.Bool.{Bool, true, _&&_}
+use mathlib.Core.Bool.{true, _&&_}
 use native.Mathlib.Omega.{arith}
 use lib.ListN.{length, drop}
 use lib.Seq.{sets, sets-eq}
@@ -13,10 +13,10 @@ use Rattle.rules.specs.declared.Graph.{Graph}
 use Rattle.rules.specs.declared.Marking.{Marking}
 use Rattle.rules.specs.declared.Verdict.{Verdict}
 use Rattle.rules.specs.First.{first}
-use Rattle.rules.specs.Graph.{row, keeps, countsFit, setsFit, kindsApart}
+use Rattle.rules.specs.Graph.{row, keeps, countsFit, setsFit}
 use Rattle.rules.specs.Move.{markingFits, noMarking}
-use Rattle.rules.specs.Laws.{first-clear, clear-head, clear-tail}
-use Rattle.arrows.specs.Arrows.{Arrow, allKnown, ascending, arrowsFit, arrowsIn, spelt, tableOf}
+use Rattle.rules.specs.Laws.{clear-head, clear-tail}
+use Rattle.arrows.specs.Arrows.{allKnown, ascending, spelt, tableOf}
 use Rattle.arrows.specs.Places.{spelt-arrowsIn}
 use Rattle.numbers.specs.Numbers.{Bytes}
 use Rattle.layout.specs.Layout.{laid, offsetAt, sizeAt, bodyAt}
