@@ -1,6 +1,7 @@
 pub mod Truth
 pub mod Smallest
 pub mod Numbers
+pub mod Tests
 pub mod Bodies
 pub mod Arrows
 pub mod Longest

@@ -1,7 +1,7 @@
 -- Reading what was written gives the graph and its first marking. The contents of a sheet lead to the bodies that it was laid out from; each body is read
 -- back; and what stands for writing a graph (2, 4, 6) is what the reader asks for (1 to 6). Assumes that the graph's tables have 64 and 16 rows, as the
 -- machine's have: that each row fits its word follows, since it names nothing beyond the counts.
-use Prim.Native.Nat.{ℕ, zero, suc, _+_, _*_, _%_, _^_, _≤_, _<_}
+use Prim.Native.Nat.{ℕ, zero, suc, _+_, _*_, _^_, _≤_, _<_}
 use mathlib.Core.Path.{_≡_, refl, sym, ap, ap₂, _∙_, subst}
 use mathlib.Core.List.{List, []}
 use mathlib.Core.Bool.{true}
@@ -10,7 +10,7 @@ use native.Mathlib.Omega.{arith}
 use lib.ListN.{length, getD}
 use lib.Dec.{eqb}
 use lib.Pow.{pow-mono}
-use borrow.Author.Tests.{eq-eqb, le-leb, not-false}
+use borrow.Author.Tests.{eq-eqb, not-false}
 use Rattle.sets.specs.Laws.{and-right, and-intro}
 use Rattle.rules.specs.declared.Graph.{Graph}
 use Rattle.rules.specs.declared.Marking.{Marking}
@@ -33,6 +33,7 @@ use Rattle.sheet.specs.Sheet.{arrowsBody, bodiesOf, sheetBytes, countsOf, first
 use Rattle.sheet.specs.More.{keeps-gone}
 use Rattle.sheet.specs.Judge.{judged-clear, if-clear}
 use Rattle.sheet.specs.Content.{Content, clear-content, countIn, sheet-length}
+use Rattle.rounds.specs.Tests.{layout-exactly}
 use Rattle.rounds.specs.Bodies.{counts-read, marking-read, roles-read, roles-fit}
 use Rattle.rounds.specs.Arrows.{four-fit, four-read}
 use Rattle.rounds.specs.Longest.{longest}
@@ -151,22 +152,28 @@ module _ (g : Graph) (m : Marking) (e : first (contentLines g m) ≡ Verdict.Cle
 
   -- ---- and nothing is against it
 
+  inside : (i : ℕ) → i < 5 → offsetAt s i + sizeAt s i ≤ length s
+  inside i h =
+      subst (λ (j : ℕ). offsetAt s j + sizeAt s j ≤ length s) (let z : 0 + i ≡ i = omega arith in z)
+      (body-inside 5 0 26 s i (and-right (eqb (getD s 0 0) 5) (follows 5 0 26 s) (k .fits)) h)
+
   size-of : (i : ℕ) → i < 5 → sizeAt s i ≡ length (bodyAt s i)
-  size-of i h =
-      let inside : offsetAt s i + sizeAt s i ≤ length s =
-      subst (λ (j : ℕ). offsetAt s j + sizeAt s j ≤ length s) (let z : 0 + i ≡ i = omega arith in z) (body-inside 5 0 26 s i (and-right (eqb (getD s 0 0) 5) (follows 5 0 26 s) (k .fits)) h) in
-      sym (length-part (offsetAt s i) (sizeAt s i) s inside)
+  size-of i h = sym (length-part (offsetAt s i) (sizeAt s i) s (inside i h))
 
   layout-fits : layoutFits s ≡ true
-  unfolding layoutFits
   layout-fits =
-      let one : sizeAt s 0 ≡ 3 = size-of 0 (omega arith) ∙ ap length (k .one) ∙ length-counts (g .steps) (g .people) (g .roles) in
-      let two : sizeAt s 1 ≡ 24 = size-of 1 (omega arith) ∙ ap length (k .two) ∙ length-marking m in
-      let five : sizeAt s 4 ≡ 3 * length (arrowsOf (fourTables (g .conditions) (g .responses) (g .includes) (g .excludes))) =
-      size-of 4 (omega arith) ∙ ap length (k .five) ∙ length-spelt (arrowsOf (fourTables (g .conditions) (g .responses) (g .includes) (g .excludes))) in
-      let whole : sizeAt s 4 % 3 ≡ 0 = omega arith in
-      and-intro (and-intro (and-intro (and-intro (and-intro (le-leb 29 (length s) (k .long)) (le-leb (length s) 37077 (k .short))) (k .fits)) (eq-eqb (sizeAt s 0) 3 one)) (eq-eqb (sizeAt s 1) 24 two))
-      (eq-eqb (sizeAt s 4 % 3) 0 whole)
+      let arrows : List Arrow = arrowsOf (fourTables (g .conditions) (g .responses) (g .includes) (g .excludes)) in
+      let five : sizeAt s 4 ≡ 3 * length arrows = size-of 4 (omega arith) ∙ ap length (k .five) ∙ length-spelt arrows in
+      layout-exactly s .1
+      (record {
+        long = k .long;
+        short = k .short;
+        fits = k .fits;
+        inside = inside;
+        one = size-of 0 (omega arith) ∙ ap length (k .one) ∙ length-counts (g .steps) (g .people) (g .roles);
+        two = size-of 1 (omega arith) ∙ ap length (k .two) ∙ length-marking m;
+        five = omega arith;
+      })
 
   counts-right : countsRight s ≡ true
   counts-right =
