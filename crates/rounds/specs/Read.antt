@@ -16,10 +16,11 @@ use Rattle.rules.specs.declared.Graph.{Graph}
 use Rattle.rules.specs.declared.Marking.{Marking}
 use Rattle.rules.specs.declared.Verdict.{Verdict}
 use Rattle.rules.specs.First.{first}
-use Rattle.rules.specs.Graph.{row, Sized, countsFit, kindsApart}
+use Rattle.rules.specs.Graph.{row, countsFit, kindsApart}
+use Rattle.rules.specs.Gathered.{Sized}
 use Rattle.rules.specs.Move.{markingFits, noMarking}
 use Rattle.rules.specs.Laws.{clear-head}
-use Rattle.rules.specs.Sound.{Inside, inside-fits, keeps-row}
+use Rattle.rules.specs.Sound.{Inside, inside-fits, keeps-row, keeps-gone}
 use Rattle.arrows.specs.Arrows.{Arrow, arrowsFit, arrowsIn, tableOf, arrowsOf, pick, fourTables}
 use Rattle.arrows.specs.Places.{arrowsIn-spelt, length-spelt}
 use Rattle.arrows.specs.Rows.{Kept}
@@ -30,7 +31,6 @@ use Rattle.bodies.specs.declared.Counts.{Counts}
 use Rattle.bodies.specs.Bodies.{countsBody, countsIn, markingBody, markingIn, rolesBody, setsIn, roleSetsFit, quarter}
 use Rattle.bodies.specs.Laws.{length-counts, length-marking, length-roles}
 use Rattle.sheet.specs.Sheet.{arrowsBody, bodiesOf, sheetBytes, countsOf, firstOf, arrowsOn, graphOf, layoutFits, countsRight, bodiesMatch, setsInside, arrowsRight, readVerdict, noGraph, theSheet, contentLines}
-use Rattle.sheet.specs.More.{keeps-gone}
 use Rattle.sheet.specs.Judge.{judged-clear, if-clear}
 use Rattle.sheet.specs.Content.{Content, clear-content, countIn, sheet-length}
 use Rattle.rounds.specs.Tests.{layout-exactly}

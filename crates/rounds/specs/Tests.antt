@@ -16,11 +16,10 @@ use Rattle.rules.specs.declared.Marking.{Marking}
 use Rattle.rules.specs.Graph.{row, keeps, countsFit}
 use Rattle.rules.specs.Move.{markingFits}
 use Rattle.rules.specs.Laws.{Counted, counts-bound}
-use Rattle.rules.specs.Sound.{Inside, fits-inside, inside-fits, keeps-row}
+use Rattle.rules.specs.Sound.{Inside, fits-inside, inside-fits, keeps-row, keeps-gone}
 use Rattle.layout.specs.Layout.{sizeAt}
 use Rattle.bodies.specs.Bodies.{setAt, roleSetsFit}
 use Rattle.sheet.specs.Sheet.{layoutFits}
-use Rattle.sheet.specs.More.{keeps-gone}
 use Rattle.sheet.specs.Judge.{Placed, layout-placed}
 use Rattle.rounds.specs.Truth.{is-false}
 
