@@ -21,6 +21,7 @@ use Rattle.rules.specs.Move.{entryMove, markingFits, markingLines}
 use Rattle.rules.specs.Laws.{first-clear, first-refused}
 use Rattle.rules.specs.Entries.{entry-after, known-step}
 use Rattle.journal.specs.Journal.{entries, entryAt, lengthFits}
+use Rattle.journal.specs.Allowed.{isAllowed, refused-moved}
 use Rattle.journal.specs.Laws.{entries-from}
 use Rattle.laps.specs.declared.Lapped.{Lapped}
 use Rattle.laps.specs.declared.Pass.{Pass}
@@ -29,10 +30,6 @@ use Rattle.laps.specs.Laps.{lengthsLines, emptyLines, lapLines}
 use Rattle.laps.specs.Decision.{still, goOn, legOn, upon}
 
 -- ---- a leg, entry by entry
-
--- the step of an entry that is allowed is one of the graph's
-pub moved-step : (g : Graph) (m next : Marking) (e : Entry) → entryMove g m e ≡ Move.Moved next → e .step .0 < g .steps
-moved-step g m next e q = known-step g e (entry-after g m next e q .0)
 
 module _ (g : Graph) (m : Marking) (x : ℕ) (j : List ℕ) (k : ℕ) where
   -- entry k is allowed: the leg goes on behind it
@@ -46,12 +43,20 @@ module _ (g : Graph) (m : Marking) (x : ℕ) (j : List ℕ) (k : ℕ) where
       ∙ ap (λ (z : ℕ). legOn g next y (k + 1) (entries (drop z j))) (let w : 3 * k + 3 ≡ 3 * (k + 1) = omega arith in w)
 
   -- it is not: the leg stops there
-  pub leg-refused : (r : Refusal) (back : Marking) → 3 * k + 3 ≤ length j → entryMove g m (entryAt j k) ≡ Move.Refused r back
+  leg-refused : (r : Refusal) (back : Marking) → 3 * k + 3 ≤ length j → entryMove g m (entryAt j k) ≡ Move.Refused r back
       → legOn g m x k (entries (drop (3 * k) j)) ≡ Leg.Stopped k r
   unfolding legOn goOn
   leg-refused r back h q =
       ap (legOn g m x k) (entries-from j k h)
       ∙ ap (λ (o : Move). goOn k o (λ n. legOn g n (still x m (entryAt j k .step .0)) (k + 1) (entries (drop (3 * k + 3) j)))) q
+
+  -- whatever the refusal, which is the move's to say
+  pub leg-stopped : 3 * k + 3 ≤ length j → isAllowed g m (entryAt j k) ≡ false
+      → legOn g m x k (entries (drop (3 * k) j)) ≡ goOn k (entryMove g m (entryAt j k)) (λ next. Leg.Ended next 0)
+  unfolding goOn
+  leg-stopped h out =
+      let f = refused-moved g m (entryAt j k) out in
+      leg-refused (f .0) (f .1) h (f .2) ∙ ap (λ (o : Move). goOn k o (λ next. Leg.Ended next 0)) (sym (f .2))
 
   -- there is none
   pub leg-ended : length j ≤ 3 * k → legOn g m x k (entries (drop (3 * k) j)) ≡ Leg.Ended m x

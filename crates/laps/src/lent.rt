@@ -2,15 +2,22 @@
 ghost use mathlib.Core.Path.{_≡_};
 ghost use Prim.Native.Nat.{ℕ, _%_, _<_, _≤_};
 ghost use lib.ListN.{length};
-ghost use Rattle.rules.specs.Graph.{lentGraph};
+ghost use Rattle.rules.specs.declared.Verdict.{Verdict};
+ghost use Rattle.rules.specs.Graph.{lentGraph, graphVerdict};
+ghost use Rattle.rules.specs.Move.{entryMove};
 ghost use Rattle.sets.specs.Sets.{lowest};
 ghost use Rattle.journal.specs.Journal.{entries};
+ghost use Rattle.laps.specs.declared.lent.Leg.{Leg};
 ghost use Rattle.laps.specs.Laps.{LapAnswer};
-ghost use Rattle.laps.specs.Decision.{still, judged, legOf, secondLap, firstLap, decision};
+ghost use Rattle.laps.specs.Decision.{still, goOn, judged, legOf, secondLap, firstLap, decision};
 use crate::Lapped;
 use crate::Pass;
 use journal::inner::entry_at;
 use journal::inner::length_fits;
+use journal::quick::SINGLES;
+use journal::quick::allowed;
+use journal::quick::taken;
+use rules::Entry;
 use rules::Marking;
 use rules::Move;
 use rules::Refusal;
@@ -52,6 +59,42 @@ fn judge(x: u64) -> Lapped
     Lapped::Starved(lowest_of(x))
 }
 
+// Where a leg stops at an entry that is not allowed. Refusals 11 to 15.
+fn stopped<'a>(
+    steps: u8,
+    people: u8,
+    roles: u8,
+    allows: &'a [u16; 64],
+    holds: &'a [u16; 16],
+    conditions: &'a [u64; 64],
+    responses: &'a [u64; 64],
+    includes: &'a [u64; 64],
+    excludes: &'a [u64; 64],
+    m: Marking,
+    e: Entry,
+    index: u16,
+) -> Leg
+    requires { ⌜ (steps ≤ 64) × (people ≤ 16) × (roles ≤ 16) ⌝ }
+    ensures { λ r. ⌜ r ≡ goOn index (entryMove (lentGraph steps people roles (now (allows .entry)) (now (holds .entry)) (now (conditions .entry)) (now (responses .entry)) (now (includes .entry)) (now (excludes .entry))) m e) (λ next. Leg.Ended next 0) ⌝ }
+{
+    match rules::lent::enter(
+        steps,
+        people,
+        roles,
+        allows,
+        holds,
+        conditions,
+        responses,
+        includes,
+        excludes,
+        m,
+        e,
+    ) {
+        Move::Moved(next) => Leg::Ended(next, 0),
+        Move::Refused(r, _) => Leg::Stopped(index, r),
+    }
+}
+
 // The entries, on a graph and a journal that are as they should be. Refusals 11 to 15.
 fn go_through<'a>(
     steps: u8,
@@ -66,16 +109,47 @@ fn go_through<'a>(
     m: Marking,
     j: &[u8],
 ) -> Leg
-    requires { ⌜ (steps ≤ 64) × (people ≤ 16) × (roles ≤ 16) × (length (now j) % 3 ≡ 0) × (length (now j) ≤ 65535) ⌝ }
+    requires { ⌜ (graphVerdict (lentGraph steps people roles (now allows) (now holds) (now conditions) (now responses) (now includes) (now excludes)) ≡ Verdict.Clear) × (length (now j) % 3 ≡ 0) × (length (now j) ≤ 65535) ⌝ }
     ensures { λ r. ⌜ r ≡ legOf (lentGraph steps people roles (now (allows .entry)) (now (holds .entry)) (now (conditions .entry)) (now (responses .entry)) (now (includes .entry)) (now (excludes .entry))) m (entries (now (j .entry))) ⌝ }
 {
+    let singles = SINGLES;
     let count = j.len() / 3;
     let mut at = m;
     let mut left = ALL;
     let mut k = 0;
     while k < count {
         let e = entry_at(j, k);
-        let o = rules::lent::enter(
+        if !allowed(
+            &singles,
+            steps,
+            people,
+            roles,
+            allows,
+            holds,
+            conditions,
+            responses,
+            includes,
+            excludes,
+            at,
+            e,
+        ) {
+            let index = k as u16;
+            return stopped(
+                steps,
+                people,
+                roles,
+                allows,
+                holds,
+                conditions,
+                responses,
+                includes,
+                excludes,
+                at,
+                e,
+                index,
+            );
+        }
+        let next = taken(
             steps,
             people,
             roles,
@@ -88,15 +162,8 @@ fn go_through<'a>(
             at,
             e,
         );
-        match o {
-            Move::Moved(next) => {
-                left = remain(left, at, e.step.0);
-                at = next;
-            }
-            Move::Refused(r, _) => {
-                return Leg::Stopped(k as u16, r);
-            }
-        }
+        left = remain(left, at, e.step.0);
+        at = next;
         k += 1;
     }
     Leg::Ended(at, left)
@@ -116,7 +183,7 @@ fn second_lap<'a>(
     m: Marking,
     lap: &[u8],
 ) -> Lapped
-    requires { ⌜ (steps ≤ 64) × (people ≤ 16) × (roles ≤ 16) × (length (now lap) % 3 ≡ 0) × (length (now lap) ≤ 65535) ⌝ }
+    requires { ⌜ (graphVerdict (lentGraph steps people roles (now allows) (now holds) (now conditions) (now responses) (now includes) (now excludes)) ≡ Verdict.Clear) × (length (now lap) % 3 ≡ 0) × (length (now lap) ≤ 65535) ⌝ }
     ensures { λ r. ⌜ r ≡ secondLap (lentGraph steps people roles (now (allows .entry)) (now (holds .entry)) (now (conditions .entry)) (now (responses .entry)) (now (includes .entry)) (now (excludes .entry))) m (entries (now (lap .entry))) ⌝ }
 {
     let leg = go_through(
@@ -152,7 +219,7 @@ fn first_lap<'a>(
     m: Marking,
     lap: &[u8],
 ) -> Lapped
-    requires { ⌜ (steps ≤ 64) × (people ≤ 16) × (roles ≤ 16) × (length (now lap) % 3 ≡ 0) × (length (now lap) ≤ 65535) ⌝ }
+    requires { ⌜ (graphVerdict (lentGraph steps people roles (now allows) (now holds) (now conditions) (now responses) (now includes) (now excludes)) ≡ Verdict.Clear) × (length (now lap) % 3 ≡ 0) × (length (now lap) ≤ 65535) ⌝ }
     ensures { λ r. ⌜ r ≡ firstLap (lentGraph steps people roles (now (allows .entry)) (now (holds .entry)) (now (conditions .entry)) (now (responses .entry)) (now (includes .entry)) (now (excludes .entry))) m (entries (now (lap .entry))) ⌝ }
 {
     let leg = go_through(
@@ -201,7 +268,7 @@ fn decide<'a>(
     stem: &[u8],
     lap: &[u8],
 ) -> Lapped
-    requires { ⌜ (steps ≤ 64) × (people ≤ 16) × (roles ≤ 16) × (length (now stem) % 3 ≡ 0) × (length (now stem) ≤ 65535) × (length (now lap) % 3 ≡ 0) × (length (now lap) ≤ 65535) ⌝ }
+    requires { ⌜ (graphVerdict (lentGraph steps people roles (now allows) (now holds) (now conditions) (now responses) (now includes) (now excludes)) ≡ Verdict.Clear) × (length (now stem) % 3 ≡ 0) × (length (now stem) ≤ 65535) × (length (now lap) % 3 ≡ 0) × (length (now lap) ≤ 65535) ⌝ }
     ensures { λ r. ⌜ r ≡ decision (lentGraph steps people roles (now (allows .entry)) (now (holds .entry)) (now (conditions .entry)) (now (responses .entry)) (now (includes .entry)) (now (excludes .entry))) m (entries (now (stem .entry))) (entries (now (lap .entry))) ⌝ }
 {
     let leg = go_through(

@@ -92,11 +92,10 @@ decide-requires c κs =
     let s = a .stem .now in
     let l = a .lap .now in
     let clear : graphVerdict g ≡ Verdict.Clear = sym (c .before .before .before .before .before .before .before .before .check .ensures) ∙ c .before .before .before .before .before .before .enum-told .given .1 in
-    let b : Counted (a .steps) (a .people) (a .roles) = clear-counts g clear in
     let long : (lengthFits s && lengthFits l) ≡ true = sym (ap₂ _&&_ (c .before .before .before .before .before .length-fits .ensures) (c .before .before .before .before .length-fits2 .ensures)) ∙ not-false _ (c .before .before .before .if1 .left) in
     let fs : lengthFits s ≡ true = and-left (lengthFits s) (lengthFits l) long in
     let fl : lengthFits l ≡ true = and-right (lengthFits s) (lengthFits l) long in
-    (b .steps-most, b .people-most, b .roles-most, fits-threes s fs, fits-most s fs, fits-threes l fl, fits-most l fl)
+    (clear, fits-threes s fs, fits-most s fs, fits-threes l fl, fits-most l fl)
 
 returns-5 : tie.Need-returns-5
 returns-5 c =
