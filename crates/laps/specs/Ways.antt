@@ -8,6 +8,7 @@ use mathlib.Core.Bool.{Bool, true, false, not, _&&_}
 use native.Mathlib.Omega.{arith}
 use lib.ListN.{length, drop, drop-of-length-le}
 use lib.Dec.{eqb}
+use Rattle.sets.specs.Sets.{full}
 use Rattle.rules.specs.declared.Graph.{Graph}
 use Rattle.rules.specs.declared.Marking.{Marking}
 use Rattle.rules.specs.declared.Entry.{Entry}
@@ -20,14 +21,17 @@ use Rattle.rules.specs.Graph.{graphLines, graphVerdict}
 use Rattle.rules.specs.Move.{entryMove, markingFits, markingLines}
 use Rattle.rules.specs.Laws.{first-clear, first-refused}
 use Rattle.rules.specs.Entries.{entry-after, known-step}
+use Rattle.journal.specs.declared.Ran.{Ran}
 use Rattle.journal.specs.Journal.{entries, entryAt, lengthFits}
+use Rattle.journal.specs.Run.{runOn}
+use Rattle.journal.specs.Run as run
 use Rattle.journal.specs.Allowed.{isAllowed, refused-moved}
 use Rattle.journal.specs.Laws.{entries-from}
 use Rattle.laps.specs.declared.Lapped.{Lapped}
 use Rattle.laps.specs.declared.Pass.{Pass}
 use Rattle.laps.specs.declared.lent.Leg.{Leg}
 use Rattle.laps.specs.Laps.{lengthsLines, emptyLines, lapLines}
-use Rattle.laps.specs.Decision.{still, goOn, legOn, upon}
+use Rattle.laps.specs.Decision.{still, goOn, legOn, legOf, upon}
 
 -- ---- a leg, entry by entry
 
@@ -72,6 +76,34 @@ upon-ended leg p rest m x q = ap (λ (l : Leg). upon l p rest) q
 pub upon-stopped : (leg : Leg) (p : Pass) (rest : Marking → ℕ → Lapped) (k : ℕ) (r : Refusal) → leg ≡ Leg.Stopped k r → upon leg p rest ≡ Lapped.Stopped k p r
 unfolding upon
 upon-stopped leg p rest k r q = ap (λ (l : Leg). upon l p rest) q
+
+-- ---- where only the marking at the end of a leg counts, a run tells
+
+unfoldable uponRun : Ran → Pass → (Marking → Lapped) → Lapped
+uponRun (Ran.Ended m k) p rest = rest m
+uponRun (Ran.Stopped k r m) p rest = Lapped.Stopped k p r
+
+leg-run : (g : Graph) (p : Pass) (rest : Marking → Lapped) (es : List Entry) (m : Marking) (x k : ℕ)
+    → upon (legOn g m x k es) p (λ end y. rest end) ≡ uponRun (runOn g m k es) p rest
+unfolding upon uponRun legOn goOn runOn run.goOn
+leg-run g p rest [] m x k = refl
+leg-run g p rest (e ∷ es) m x k = go (entryMove g m e) (λ next. leg-run g p rest es next (still x m (e .step .0)) (k + 1))
+  where
+    go : (o : Move)
+        → ((next : Marking) → upon (legOn g next (still x m (e .step .0)) (k + 1) es) p (λ end y. rest end) ≡ uponRun (runOn g next (k + 1) es) p rest)
+        → upon (goOn k o (λ next. legOn g next (still x m (e .step .0)) (k + 1) es)) p (λ end y. rest end) ≡ uponRun (run.goOn k m o (λ next. runOn g next (k + 1) es)) p rest
+    go (Move.Moved next) more = more next
+    go (Move.Refused r back) more = refl
+
+module _ (g : Graph) (m : Marking) (es : List Entry) (p : Pass) (rest : Marking → Lapped) where
+  pub upon-run-ended : (next : Marking) (k : ℕ) → runOn g m 0 es ≡ Ran.Ended next k → upon (legOf g m es) p (λ end x. rest end) ≡ rest next
+  unfolding uponRun
+  upon-run-ended next k q = leg-run g p rest es m (full 64) 0 ∙ ap (λ (o : Ran). uponRun o p rest) q
+
+  pub upon-run-stopped : (k : ℕ) (r : Refusal) (back : Marking) → runOn g m 0 es ≡ Ran.Stopped k r back
+      → upon (legOf g m es) p (λ end x. rest end) ≡ Lapped.Stopped k p r
+  unfolding uponRun
+  upon-run-stopped k r back q = leg-run g p rest es m (full 64) 0 ∙ ap (λ (o : Ran). uponRun o p rest) q
 
 -- ---- the table, line by line
 

@@ -12,8 +12,10 @@ ghost use Rattle.laps.specs.Laps.{LapAnswer};
 ghost use Rattle.laps.specs.Decision.{still, goOn, judged, legOf, secondLap, firstLap, decision};
 use crate::Lapped;
 use crate::Pass;
+use journal::Ran;
 use journal::inner::entry_at;
 use journal::inner::length_fits;
+use journal::lent::run_entries;
 use journal::quick::SINGLES;
 use journal::quick::allowed;
 use journal::quick::taken;
@@ -222,7 +224,7 @@ fn first_lap<'a>(
     requires { ⌜ (graphVerdict (lentGraph steps people roles (now allows) (now holds) (now conditions) (now responses) (now includes) (now excludes)) ≡ Verdict.Clear) × (length (now lap) % 3 ≡ 0) × (length (now lap) ≤ 65535) ⌝ }
     ensures { λ r. ⌜ r ≡ firstLap (lentGraph steps people roles (now (allows .entry)) (now (holds .entry)) (now (conditions .entry)) (now (responses .entry)) (now (includes .entry)) (now (excludes .entry))) m (entries (now (lap .entry))) ⌝ }
 {
-    let leg = go_through(
+    let ran = run_entries(
         steps,
         people,
         roles,
@@ -235,9 +237,9 @@ fn first_lap<'a>(
         m,
         lap,
     );
-    match leg {
-        Leg::Stopped(k, r) => Lapped::Stopped(k, Pass::First, r),
-        Leg::Ended(again, _) => second_lap(
+    match ran {
+        Ran::Stopped(k, r, _) => Lapped::Stopped(k, Pass::First, r),
+        Ran::Ended(again, _) => second_lap(
             steps,
             people,
             roles,
@@ -271,7 +273,7 @@ fn decide<'a>(
     requires { ⌜ (graphVerdict (lentGraph steps people roles (now allows) (now holds) (now conditions) (now responses) (now includes) (now excludes)) ≡ Verdict.Clear) × (length (now stem) % 3 ≡ 0) × (length (now stem) ≤ 65535) × (length (now lap) % 3 ≡ 0) × (length (now lap) ≤ 65535) ⌝ }
     ensures { λ r. ⌜ r ≡ decision (lentGraph steps people roles (now (allows .entry)) (now (holds .entry)) (now (conditions .entry)) (now (responses .entry)) (now (includes .entry)) (now (excludes .entry))) m (entries (now (stem .entry))) (entries (now (lap .entry))) ⌝ }
 {
-    let leg = go_through(
+    let ran = run_entries(
         steps,
         people,
         roles,
@@ -284,9 +286,9 @@ fn decide<'a>(
         m,
         stem,
     );
-    match leg {
-        Leg::Stopped(k, r) => Lapped::Stopped(k, Pass::Stem, r),
-        Leg::Ended(start, _) => first_lap(
+    match ran {
+        Ran::Stopped(k, r, _) => Lapped::Stopped(k, Pass::Stem, r),
+        Ran::Ended(start, _) => first_lap(
             steps,
             people,
             roles,

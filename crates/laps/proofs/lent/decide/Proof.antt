@@ -1,23 +1,23 @@
--- `lent::decide`: the leg over the stem, and then the laps from the marking at which it ended. Assumes nothing.
+-- `lent::decide`: the run of the stem, and then the laps from the marking at which it ended. Assumes nothing.
 use mathlib.Core.Path.{_≡_, sym, _∙_}
 use borrow.Author.Needs.{needs}
 use Rattle.rules.specs.declared.Graph.{Graph}
 use Rattle.rules.specs.Graph.{lentGraph}
 use Rattle.journal.specs.Journal.{entries}
 use Rattle.laps.specs.declared.Pass.{Pass}
-use Rattle.laps.specs.Decision.{legOf, firstLap, decision}
-use Rattle.laps.specs.Ways.{upon-ended, upon-stopped}
+use Rattle.laps.specs.Decision.{firstLap, decision}
+use Rattle.laps.specs.Ways.{upon-run-ended, upon-run-stopped}
 use Rattle.laps.proofs.lent.decide.Statement.{statement}
 use Rattle.laps.proofs.lent.decide.Tie as tie
 
-go-through-requires : tie.Need-go-through-requires
-go-through-requires c κs = search needs
+run-entries-requires : tie.Need-run-entries-requires
+run-entries-requires c κs = search needs
 
-enum-known-leg : tie.Need-enum-known-leg
-enum-known-leg c = search needs
+enum-known-ran : tie.Need-enum-known-ran
+enum-known-ran c = search needs
 
-enum-known-leg-2 : tie.Need-enum-known-leg-2
-enum-known-leg-2 c = search needs
+enum-known-ran-2 : tie.Need-enum-known-ran-2
+enum-known-ran-2 c = search needs
 
 first-lap-requires : tie.Need-first-lap-requires
 first-lap-requires c κs = search needs
@@ -29,7 +29,7 @@ returns c =
     let g : Graph = lentGraph (a .steps) (a .people) (a .roles) (a .allows .now) (a .holds .now) (a .conditions .now) (a .responses .now) (a .includes .now) (a .excludes .now) in
     let j = entries (a .stem .now) in
     let l = entries (a .lap .now) in
-    sym (upon-stopped (legOf g (a .m) j) Pass.Stem (λ end x. firstLap g end l) _ _ (sym (c .before .before .before .go-through .ensures) ∙ c .before .leg .given .1))
+    sym (upon-run-stopped g (a .m) j Pass.Stem (λ end. firstLap g end l) _ _ _ (sym (c .before .before .before .run-entries .ensures) ∙ c .before .ran .given .1))
 
 returns-2 : tie.Need-returns-2
 unfolding decision
@@ -38,16 +38,16 @@ returns-2 c =
     let g : Graph = lentGraph (a .steps) (a .people) (a .roles) (a .allows .now) (a .holds .now) (a .conditions .now) (a .responses .now) (a .includes .now) (a .excludes .now) in
     let j = entries (a .stem .now) in
     let l = entries (a .lap .now) in
-    let next : c .first-lap .result ≡ firstLap g (c .before .before .leg2 .given .0 .0) l = c .first-lap .ensures in
-    next ∙ sym (upon-ended (legOf g (a .m) j) Pass.Stem (λ end x. firstLap g end l) _ _ (sym (c .before .before .before .before .go-through .ensures) ∙ c .before .before .leg2 .given .1))
+    let next : c .first-lap .result ≡ firstLap g (c .before .before .ran2 .given .0 .0) l = c .first-lap .ensures in
+    next ∙ sym (upon-run-ended g (a .m) j Pass.Stem (λ end. firstLap g end l) _ _ (sym (c .before .before .before .before .run-entries .ensures) ∙ c .before .before .ran2 .given .1))
 
 pub decide-spec : {M : Type 1} → statement M
 decide-spec =
     tie.close
     (tie.spec
-    go-through-requires
-    enum-known-leg
-    enum-known-leg-2
+    run-entries-requires
+    enum-known-ran
+    enum-known-ran-2
     first-lap-requires
     returns
     returns-2)

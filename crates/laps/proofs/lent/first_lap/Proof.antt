@@ -1,23 +1,23 @@
--- `lent::first_lap`: the leg over the lap, and then the second time from the marking at which it ended. Assumes nothing.
+-- `lent::first_lap`: the run of the lap, and then the second time from the marking at which it ended. Assumes nothing.
 use mathlib.Core.Path.{_≡_, sym, _∙_}
 use borrow.Author.Needs.{needs}
 use Rattle.rules.specs.declared.Graph.{Graph}
 use Rattle.rules.specs.Graph.{lentGraph}
 use Rattle.journal.specs.Journal.{entries}
 use Rattle.laps.specs.declared.Pass.{Pass}
-use Rattle.laps.specs.Decision.{legOf, secondLap, firstLap}
-use Rattle.laps.specs.Ways.{upon-ended, upon-stopped}
+use Rattle.laps.specs.Decision.{secondLap, firstLap}
+use Rattle.laps.specs.Ways.{upon-run-ended, upon-run-stopped}
 use Rattle.laps.proofs.lent.first_lap.Statement.{statement}
 use Rattle.laps.proofs.lent.first_lap.Tie as tie
 
-go-through-requires : tie.Need-go-through-requires
-go-through-requires c κs = search needs
+run-entries-requires : tie.Need-run-entries-requires
+run-entries-requires c κs = search needs
 
-enum-known-leg : tie.Need-enum-known-leg
-enum-known-leg c = search needs
+enum-known-ran : tie.Need-enum-known-ran
+enum-known-ran c = search needs
 
-enum-known-leg-2 : tie.Need-enum-known-leg-2
-enum-known-leg-2 c = search needs
+enum-known-ran-2 : tie.Need-enum-known-ran-2
+enum-known-ran-2 c = search needs
 
 second-lap-requires : tie.Need-second-lap-requires
 second-lap-requires c κs = search needs
@@ -28,7 +28,7 @@ returns c =
     let a = c .before .before .before .before .before .args in
     let g : Graph = lentGraph (a .steps) (a .people) (a .roles) (a .allows .now) (a .holds .now) (a .conditions .now) (a .responses .now) (a .includes .now) (a .excludes .now) in
     let j = entries (a .lap .now) in
-    sym (upon-stopped (legOf g (a .m) j) Pass.First (λ end x. secondLap g end j) _ _ (sym (c .before .before .before .go-through .ensures) ∙ c .before .leg .given .1))
+    sym (upon-run-stopped g (a .m) j Pass.First (λ end. secondLap g end j) _ _ _ (sym (c .before .before .before .run-entries .ensures) ∙ c .before .ran .given .1))
 
 returns-2 : tie.Need-returns-2
 unfolding firstLap
@@ -36,16 +36,16 @@ returns-2 c =
     let a = c .before .before .before .before .before .before .args in
     let g : Graph = lentGraph (a .steps) (a .people) (a .roles) (a .allows .now) (a .holds .now) (a .conditions .now) (a .responses .now) (a .includes .now) (a .excludes .now) in
     let j = entries (a .lap .now) in
-    let next : c .second-lap .result ≡ secondLap g (c .before .before .leg2 .given .0 .0) j = c .second-lap .ensures in
-    next ∙ sym (upon-ended (legOf g (a .m) j) Pass.First (λ end x. secondLap g end j) _ _ (sym (c .before .before .before .before .go-through .ensures) ∙ c .before .before .leg2 .given .1))
+    let next : c .second-lap .result ≡ secondLap g (c .before .before .ran2 .given .0 .0) j = c .second-lap .ensures in
+    next ∙ sym (upon-run-ended g (a .m) j Pass.First (λ end. secondLap g end j) _ _ (sym (c .before .before .before .before .run-entries .ensures) ∙ c .before .before .ran2 .given .1))
 
 pub first-lap-spec : {M : Type 1} → statement M
 first-lap-spec =
     tie.close
     (tie.spec
-    go-through-requires
-    enum-known-leg
-    enum-known-leg-2
+    run-entries-requires
+    enum-known-ran
+    enum-known-ran-2
     second-lap-requires
     returns
     returns-2)
