@@ -63,9 +63,8 @@ pub extern "C" fn ulz_apply<'a, 'b>(n: u8, bytes: &'a [u8], marking: &'b mut [u6
     ensures { λ r. ⌜ r ≡ appliedWord (theApplication n (recordIn n (now (bytes .entry))) (markingIn (now (marking .entry)))) ⌝ }
     ensures { λ r. ⌜ now (marking .exit) ≡ appliedOut (theApplication n (recordIn n (now (bytes .entry))) (markingIn (now (marking .entry)))) (now (marking .entry)) ⌝ }
 {
-    let r = rw::record_in(n, bytes);
     let m = words::marking(marking);
-    let o = r.apply(m, n);
+    let o = rw::applying(n, bytes, m);
     rw::applied(o, marking)
 }
 

@@ -2,11 +2,13 @@
 ghost use mathlib.Core.Path.{_≡_};
 ghost use Prim.Native.Nat.{_≤_};
 ghost use lib.ListN.{length};
+ghost use Rattle.records.specs.Answers.{theApplication};
 ghost use Rattle.door.specs.Folded.{spoilt, recordOr, recordIn, recordOf, theJoining, recordedWord, recordedOut, wordsOut, wordsStored, appliedWord, appliedOut, verdictLength};
 use crate::words;
 use records::Applied;
 use records::Record;
 use records::Recorded;
+use rules::Marking;
 use rules::Verdict;
 
 // What stands in for bytes or words that spell no record: it is not well-formed, for never is on beside a set.
@@ -58,6 +60,17 @@ pub fn record_of(sets: &[u64; 9]) -> Record
     }
 }
 
+// A record that was read is well-formed, and that is not asked again.
+pub fn applying(n: u8, bytes: &[u8], m: Marking) -> Applied
+    ensures { λ r. ⌜ r ≡ theApplication n (recordIn n (now (bytes .entry))) m ⌝ }
+{
+    let o = records::read(n, bytes);
+    match o {
+        Recorded::Made(r) => records::inner::applied_at(n, r, m),
+        Recorded::Refused(_) => SPOILT.apply(m, n),
+    }
+}
+
 pub fn joining<'a, 'b>(n: u8, a: &'a [u8], b: &'b [u8]) -> Recorded
     ensures { λ r. ⌜ r ≡ theJoining n (now (a .entry)) (now (b .entry)) ⌝ }
 {
@@ -66,7 +79,7 @@ pub fn joining<'a, 'b>(n: u8, a: &'a [u8], b: &'b [u8]) -> Recorded
         Recorded::Made(x) => {
             let second = records::read(n, b);
             match second {
-                Recorded::Made(y) => x.join(y, n),
+                Recorded::Made(y) => Recorded::Made(records::inner::joined(x, y)),
                 Recorded::Refused(r) => Recorded::Refused(r),
             }
         }

@@ -1,8 +1,9 @@
 // Records by their sets: every formula is over whole sets, with no branch.
 ghost use mathlib.Core.Path.{_≡_};
+ghost use mathlib.Core.Bool.{true};
 ghost use Prim.Native.Nat.{ℕ, _≤_};
 ghost use Rattle.rules.specs.Graph.{within1to};
-ghost use Rattle.records.specs.Answers.{appliedOn};
+ghost use Rattle.records.specs.Answers.{appliedOn, theApplication};
 ghost use Rattle.records.specs.Records.{applies, gives, wellFormed, compose, sorted, tidy, join};
 use crate::Applied;
 use crate::Record;
@@ -87,6 +88,17 @@ pub fn applied(r: Record, m: Marking) -> Applied
         return Applied::Refused(Refusal::NotApplied, m);
     }
     Applied::Gives(given(r, m))
+}
+
+// A well-formed record at any marking. Refusals 8, 16.
+pub fn applied_at(n: u8, r: Record, m: Marking) -> Applied
+    requires { ⌜ (within1to n 64 ≡ true) × (wellFormed n r ≡ true) ⌝ }
+    ensures { λ x. ⌜ x ≡ theApplication n r m ⌝ }
+{
+    if !rules::inner::fits(n, m) {
+        return Applied::Refused(Refusal::Outside, NONE);
+    }
+    applied(r, m)
 }
 
 // What a and then b need and do, with nothing tidied.
