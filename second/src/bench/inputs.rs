@@ -1,4 +1,4 @@
-//! Full graphs of 64 steps, 16 people and 16 roles, with arrows nearly everywhere. They are loaded before the race, and few
+//! Graphs of 64 steps, or fewer, 16 people and 16 roles, with arrows nearly everywhere. They are loaded before the race, and few
 //! enough to stay in the nearest cache: the calls are raced, not the memory.
 
 use second::cases::{self, Case, Density, Dice};
@@ -9,12 +9,29 @@ const GRAPHS: u64 = 8;
 /// What is done to a marking so that the entry gets the wanted answer.
 pub type Bend = fn(&mut Dice, &Graph, &mut Marking, Entry);
 
+/// With 64 steps no arrow can name a step beyond and no row stands beyond, and with fewer both are asked: a check of the one
+/// tells nothing of the other.
+pub const SIZES: [u8; 2] = [64, 40];
+
+/// The name of a line over graphs of so many steps.
+pub fn named(name: &str, steps: u8) -> String {
+    if steps == 64 {
+        name.to_string()
+    } else {
+        format!("{name}/{steps}")
+    }
+}
+
 pub fn full(bend: Bend) -> Vec<Case> {
+    of_steps(64, bend)
+}
+
+pub fn of_steps(steps: u8, bend: Bend) -> Vec<Case> {
     (0..GRAPHS)
         .map(|index| {
             let mut dice = Dice::new(64, index);
-            let graph = dense(&mut dice);
-            let mut marking = cases::inside(&mut dice, 64);
+            let graph = dense(&mut dice, steps);
+            let mut marking = cases::inside(&mut dice, steps);
             let entry = cases::fitting(&mut dice, &graph);
             bend(&mut dice, &graph, &mut marking, entry);
             Case { graph, marking, entry }
@@ -22,8 +39,8 @@ pub fn full(bend: Bend) -> Vec<Case> {
         .collect()
 }
 
-fn dense(dice: &mut Dice) -> Graph {
-    cases::sized(dice, [64, 16, 16], [Density::Dense; 6])
+fn dense(dice: &mut Dice, steps: u8) -> Graph {
+    cases::sized(dice, [steps, 16, 16], [Density::Dense; 6])
 }
 
 /// A full graph with a journal of so many entries that runs through from the marking.
@@ -36,7 +53,7 @@ pub struct Job {
 /// Everything is done and included at the start, so that a walk never gets stuck.
 pub fn job(entries: usize) -> Job {
     let mut dice = Dice::new(64, entries as u64);
-    let graph = dense(&mut dice);
+    let graph = dense(&mut dice, 64);
     let marking = Marking([u64::MAX, dice.word(), u64::MAX]);
     let mut journal = Vec::new();
     cases::walk(&mut dice, &graph, &mut marking.clone(), entries, &mut journal);

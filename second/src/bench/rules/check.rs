@@ -1,7 +1,16 @@
-use crate::{border, inputs::full, race::race};
+use crate::inputs::{named, of_steps, SIZES};
+use crate::{border, race::race};
 use second::peer::{self, Tell};
 
 pub fn run() {
-    let cases = full(|_, _, _, _| ());
-    race("check", &cases, (), |case, ()| border::check(&case.graph), |case, ()| peer::check(&case.graph).tell());
+    for steps in SIZES {
+        let cases = of_steps(steps, |_, _, _, _| ());
+        race(
+            &named("check", steps),
+            &cases,
+            (),
+            |case, ()| border::check(&case.graph),
+            |case, ()| peer::check(&case.graph).tell(),
+        );
+    }
 }

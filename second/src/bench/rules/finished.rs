@@ -1,13 +1,16 @@
-use crate::{border, inputs::full, race::race};
+use crate::inputs::{named, of_steps, SIZES};
+use crate::{border, race::race};
 use second::peer::{self, Tell};
 
 pub fn run() {
-    let cases = full(|_, _, _, _| ());
-    race(
-        "finished",
-        &cases,
-        (),
-        |case, ()| border::finished(&case.graph, &case.marking.0),
-        |case, ()| peer::finished(&case.graph, &case.marking).tell(),
-    );
+    for steps in SIZES {
+        let cases = of_steps(steps, |_, _, _, _| ());
+        race(
+            &named("finished", steps),
+            &cases,
+            (),
+            |case, ()| border::finished(&case.graph, &case.marking.0),
+            |case, ()| peer::finished(&case.graph, &case.marking).tell(),
+        );
+    }
 }

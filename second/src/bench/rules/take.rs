@@ -1,6 +1,6 @@
 use crate::{
     border,
-    inputs::{full, Bend},
+    inputs::{named, of_steps, Bend, SIZES},
     race::race,
 };
 use second::cases::{make_moved, make_waiting, Case};
@@ -15,18 +15,20 @@ pub fn run() {
 }
 
 pub fn race_both(ours: Ours) {
-    race_to(ours, "moved", 0, make_moved);
-    race_to(ours, "waits", 15, make_waiting);
+    for steps in SIZES {
+        race_to(ours, steps, "moved", 0, make_moved);
+        race_to(ours, steps, "waits", 15, make_waiting);
+    }
 }
 
 /// Every input gets this number. Each call starts from the case's marking, since a move alters it where it lies.
-fn race_to((call, name): Ours, how: &str, number: u64, bend: Bend) {
-    let name = format!("{name}-{how}");
+fn race_to((call, name): Ours, steps: u8, how: &str, number: u64, bend: Bend) {
+    let name = named(&format!("{name}-{how}"), steps);
     let ours = |case: &Case, marking: &mut Marking| {
         *marking = case.marking;
         call(&case.graph, &mut marking.0, case.entry)
     };
-    let cases = full(bend);
+    let cases = of_steps(steps, bend);
     let right = |case: &Case| ours(case, &mut Marking([0; 3])).number() == number;
     assert!(cases.iter().all(right), "{name}: not every answer is {number}");
     race(&name, &cases, Marking([0; 3]), ours, |case, marking| {
