@@ -7,7 +7,7 @@ use Rattle.rules.specs.declared.Marking.{Marking}
 use Rattle.laps.specs.declared.Lapped.{Lapped}
 use Rattle.laps.specs.declared.Pass.{Pass}
 use Rattle.laps.specs.Laps.{LapAnswer, numberOfPass}
-use Rattle.door.specs.Words.{refusalWord}
+use Rattle.words.specs.Words.{refusalWord}
 
 -- accepted is 0; a step that starves has 1 in the second byte and stands above it; a refused entry has its index above the refusal, and
 -- its pass above that

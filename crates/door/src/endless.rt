@@ -1,10 +1,9 @@
 // The border of laps.
 ghost use mathlib.Core.Path.{_≡_};
 ghost use Rattle.rules.specs.Graph.{lentGraph};
-ghost use Rattle.door.specs.Words.{markingIn};
+ghost use Rattle.words.specs.Words.{markingIn};
 ghost use Rattle.door.specs.Lapped.{LapTold, lapWord};
 ghost use Rattle.laps.specs.Laps.{numberOfPass};
-use crate::words;
 use laps::Lapped;
 use laps::Pass;
 

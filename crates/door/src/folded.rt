@@ -4,10 +4,9 @@ ghost use Rattle.rules.specs.Graph.{lentGraph};
 ghost use Rattle.records.specs.Answers.{theApplication};
 ghost use Rattle.records.specs.Bytes.{theReading};
 ghost use Rattle.folding.specs.Answers.{theFold, theRestoring};
-ghost use Rattle.door.specs.Words.{markingIn, ranWord, ranOut};
-ghost use Rattle.door.specs.Folded.{recordIn, recordOf, theJoining, recordedWord, recordedOut, wordsOut, appliedWord, appliedOut, writtenWord, writtenOut};
-use crate::records_words as rw;
-use crate::words;
+ghost use Rattle.words.specs.Words.{markingIn, ranWord, ranOut};
+ghost use Rattle.words.specs.Folded.{recordIn, recordOf, theJoining, recordedWord, recordedOut, wordsOut, appliedWord, appliedOut, writtenWord, writtenOut};
+use words::folded as rw;
 
 // Refusals 2, 4, 6, 7. The bytes become the record's.
 #[no_mangle]

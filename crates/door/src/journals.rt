@@ -4,8 +4,7 @@ ghost use Rattle.rules.specs.Graph.{lentGraph};
 ghost use Rattle.journal.specs.Run.{theRun};
 ghost use Rattle.journal.specs.Walk.{strideAt};
 ghost use Rattle.kept.specs.Keep.{theKept};
-ghost use Rattle.door.specs.Words.{markingIn, entryOf, moveWord, markingOut, ranWord, ranOut, walkedWord};
-use crate::words;
+ghost use Rattle.words.specs.Words.{markingIn, entryOf, moveWord, markingOut, ranWord, ranOut, walkedWord};
 use rules::Entry;
 use rules::Step;
 

@@ -3,7 +3,7 @@
 ghost use mathlib.Core.Path.{_≡_};
 ghost use Rattle.rules.specs.Graph.{lentGraph, graphVerdict};
 ghost use Rattle.rules.specs.Move.{theMove, theEnding};
-ghost use Rattle.door.specs.Words.{verdictWord, moveWord, endingWord, markingIn, markingOut, entryOf};
+ghost use Rattle.words.specs.Words.{verdictWord, moveWord, endingWord, markingIn, markingOut, entryOf};
 use rules::Ending;
 use rules::Entry;
 use rules::Marking;
@@ -15,10 +15,8 @@ use rules::Verdict;
 pub mod endless;
 pub mod folded;
 pub mod journals;
-pub mod records_words;
 pub mod sheets;
 pub mod tracks;
-pub mod words;
 
 // Refusals 2, 4, 6.
 #[no_mangle]

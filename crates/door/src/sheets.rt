@@ -3,8 +3,7 @@ ghost use mathlib.Core.Path.{_≡_};
 ghost use lib.ListN.{length};
 ghost use Rattle.rules.specs.Graph.{lentGraph};
 ghost use Rattle.sheet.specs.Sheet.{graphOf, countsList, firstList, readVerdict, ifClear, theWritten, roomAfter};
-ghost use Rattle.door.specs.Words.{markingIn, verdictWord, writtenLength};
-use crate::words;
+ghost use Rattle.words.specs.Words.{markingIn, verdictWord, writtenLength};
 use sheet::Written;
 
 // Refusals 1 to 6. The tables become the graph's, and the marking its first.

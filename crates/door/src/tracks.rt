@@ -2,8 +2,7 @@
 ghost use mathlib.Core.Path.{_≡_};
 ghost use Rattle.rules.specs.Graph.{lentGraph};
 ghost use Rattle.tracker.specs.Tracker.{theStart, theIdle, theStep};
-ghost use Rattle.door.specs.Words.{markingIn, entryOf, trackIn, trackedWord, trackedOut};
-use crate::words;
+ghost use Rattle.words.specs.Words.{markingIn, entryOf, trackIn, trackedWord, trackedOut};
 use rules::Entry;
 use rules::Rank;
 use rules::Step;

@@ -20,7 +20,6 @@ use Rattle.rules.specs.First.{first}
 use Rattle.rules.specs.Graph.{graphLines, graphVerdict}
 use Rattle.rules.specs.Move.{entryMove, markingFits, markingLines}
 use Rattle.rules.specs.Laws.{first-clear, first-refused}
-use Rattle.rules.specs.Entries.{entry-after, known-step}
 use Rattle.journal.specs.declared.Ran.{Ran}
 use Rattle.journal.specs.Journal.{entries, entryAt, lengthFits}
 use Rattle.journal.specs.Run.{runOn}

@@ -1,7 +1,7 @@
 -- `ulz_check`: the verdict as a word. Assumes nothing.
 use mathlib.Core.Path.{ap, _∙_}
 use borrow.Author.Needs.{needs}
-use Rattle.door.specs.Words.{verdictWord}
+use Rattle.words.specs.Words.{verdictWord}
 use Rattle.door.proofs.ulz_check.Statement.{statement}
 use Rattle.door.proofs.ulz_check.Tie as tie
 

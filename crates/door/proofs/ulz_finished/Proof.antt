@@ -7,7 +7,7 @@ use Rattle.rules.specs.declared.Verdict.{Verdict}
 use Rattle.rules.specs.Graph.{lentGraph, graphVerdict}
 use Rattle.rules.specs.Move.{endingOn}
 use Rattle.rules.specs.Laws.{Counted, clear-counts, ending-refused, ending-clear}
-use Rattle.door.specs.Words.{endingWord, markingIn}
+use Rattle.words.specs.Words.{endingWord, markingIn}
 use Rattle.door.proofs.ulz_finished.Statement.{statement}
 use Rattle.door.proofs.ulz_finished.Tie as tie
 

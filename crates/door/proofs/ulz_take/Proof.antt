@@ -9,7 +9,7 @@ use Rattle.rules.specs.declared.Verdict.{Verdict}
 use Rattle.rules.specs.Graph.{lentGraph, graphVerdict}
 use Rattle.rules.specs.Move.{theMove, moveOn, noMarking}
 use Rattle.rules.specs.Laws.{Counted, clear-counts, move-refused, move-clear}
-use Rattle.door.specs.Words.{moveWord, markingIn, markingOut, entryOf}
+use Rattle.words.specs.Words.{moveWord, markingIn, markingOut, entryOf}
 use Rattle.door.proofs.ulz_take.Statement.{statement}
 use Rattle.door.proofs.ulz_take.Tie as tie
 

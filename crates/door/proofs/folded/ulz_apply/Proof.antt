@@ -3,8 +3,8 @@ use mathlib.Core.Path.{_≡_, ap, _∙_}
 use borrow.Author.Needs.{needs}
 use Rattle.records.specs.declared.Applied.{Applied}
 use Rattle.records.specs.Answers.{theApplication}
-use Rattle.door.specs.Words.{markingIn}
-use Rattle.door.specs.Folded.{recordIn, appliedWord, appliedOut}
+use Rattle.words.specs.Words.{markingIn}
+use Rattle.words.specs.Folded.{recordIn, appliedWord, appliedOut}
 use Rattle.door.proofs.folded.ulz_apply.Statement.{statement}
 use Rattle.door.proofs.folded.ulz_apply.Tie as tie
 

@@ -2,7 +2,7 @@
 use mathlib.Core.Path.{ap, _∙_}
 use borrow.Author.Needs.{needs}
 use Rattle.records.specs.declared.Recorded.{Recorded}
-use Rattle.door.specs.Folded.{recordedWord, recordedOut}
+use Rattle.words.specs.Folded.{recordedWord, recordedOut}
 use Rattle.door.proofs.folded.ulz_fold.Statement.{statement}
 use Rattle.door.proofs.folded.ulz_fold.Tie as tie
 

@@ -2,7 +2,7 @@
 use mathlib.Core.Path.{ap, _∙_}
 use borrow.Author.Needs.{needs}
 use Rattle.records.specs.declared.Record.{Record}
-use Rattle.door.specs.Folded.{verdictLength, writtenWord, writtenOut}
+use Rattle.words.specs.Folded.{verdictLength, writtenWord, writtenOut}
 use Rattle.door.proofs.folded.ulz_record_write.Statement.{statement}
 use Rattle.door.proofs.folded.ulz_record_write.Tie as tie
 

@@ -7,8 +7,8 @@ use Rattle.rules.specs.Graph.{lentGraph}
 use Rattle.journal.specs.declared.Ran.{Ran}
 use Rattle.records.specs.declared.Record.{Record}
 use Rattle.folding.specs.Answers.{theRestoring}
-use Rattle.door.specs.Words.{markingIn, ranWord, ranOut}
-use Rattle.door.specs.Folded.{recordIn}
+use Rattle.words.specs.Words.{markingIn, ranWord, ranOut}
+use Rattle.words.specs.Folded.{recordIn}
 use Rattle.door.proofs.folded.ulz_restore.Statement.{statement}
 use Rattle.door.proofs.folded.ulz_restore.Tie as tie
 

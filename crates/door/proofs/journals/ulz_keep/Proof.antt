@@ -7,7 +7,7 @@ use Rattle.rules.specs.declared.Move.{Move}
 use Rattle.rules.specs.Graph.{lentGraph}
 use Rattle.kept.specs.declared.Kept.{Kept}
 use Rattle.kept.specs.Keep.{theKept}
-use Rattle.door.specs.Words.{markingIn, moveWord, markingOut, entryOf}
+use Rattle.words.specs.Words.{markingIn, moveWord, markingOut, entryOf}
 use Rattle.door.proofs.journals.ulz_keep.Statement.{statement}
 use Rattle.door.proofs.journals.ulz_keep.Tie as tie
 

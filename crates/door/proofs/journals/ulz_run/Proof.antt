@@ -6,7 +6,7 @@ use Rattle.rules.specs.declared.Marking.{Marking}
 use Rattle.rules.specs.Graph.{lentGraph}
 use Rattle.journal.specs.declared.Ran.{Ran}
 use Rattle.journal.specs.Run.{theRun}
-use Rattle.door.specs.Words.{markingIn, ranWord, ranOut}
+use Rattle.words.specs.Words.{markingIn, ranWord, ranOut}
 use Rattle.door.proofs.journals.ulz_run.Statement.{statement}
 use Rattle.door.proofs.journals.ulz_run.Tie as tie
 

@@ -2,7 +2,7 @@
 use mathlib.Core.Path.{ap, _∙_}
 use borrow.Author.Needs.{needs}
 use Rattle.journal.specs.declared.Stride.{Stride}
-use Rattle.door.specs.Words.{walkedWord}
+use Rattle.words.specs.Words.{walkedWord}
 use Rattle.door.proofs.journals.ulz_walk.Statement.{statement}
 use Rattle.door.proofs.journals.ulz_walk.Tie as tie
 

@@ -1,7 +1,7 @@
 -- `ulz_read`: the verdict as a word, and the tables as the reader leaves them. Assumes nothing.
 use mathlib.Core.Path.{ap, _∙_}
 use borrow.Author.Needs.{needs}
-use Rattle.door.specs.Words.{verdictWord}
+use Rattle.words.specs.Words.{verdictWord}
 use Rattle.door.proofs.sheets.ulz_read.Statement.{statement}
 use Rattle.door.proofs.sheets.ulz_read.Tie as tie
 

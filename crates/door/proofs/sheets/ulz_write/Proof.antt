@@ -6,7 +6,7 @@ use Rattle.rules.specs.declared.Graph.{Graph}
 use Rattle.rules.specs.declared.Marking.{Marking}
 use Rattle.rules.specs.Graph.{lentGraph}
 use Rattle.sheet.specs.Sheet.{theWritten, roomAfter}
-use Rattle.door.specs.Words.{writtenLength}
+use Rattle.words.specs.Words.{writtenLength}
 use Rattle.door.proofs.sheets.ulz_write.Statement.{statement}
 use Rattle.door.proofs.sheets.ulz_write.Tie as tie
 

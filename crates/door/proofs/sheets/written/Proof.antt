@@ -1,7 +1,7 @@
 -- `written`: each arm is the definition at its constructor. Assumes nothing.
 use mathlib.Core.Path.{sym, ap, _∙_}
 use borrow.Author.Needs.{needs}
-use Rattle.door.specs.Words.{writtenLength}
+use Rattle.words.specs.Words.{writtenLength}
 use Rattle.door.proofs.sheets.written.Statement.{statement}
 use Rattle.door.proofs.sheets.written.Tie as tie
 

@@ -7,7 +7,7 @@ use Rattle.rules.specs.declared.Marking.{Marking}
 use Rattle.rules.specs.Graph.{lentGraph}
 use Rattle.tracker.specs.declared.Track.{Track}
 use Rattle.tracker.specs.Tracker.{theIdle}
-use Rattle.door.specs.Words.{trackedWord}
+use Rattle.words.specs.Words.{trackedWord}
 use Rattle.door.proofs.tracks.ulz_track_idle.Statement.{statement}
 use Rattle.door.proofs.tracks.ulz_track_idle.Tie as tie
 

@@ -4,7 +4,7 @@ use borrow.Author.Needs.{needs}
 use Rattle.rules.specs.declared.Graph.{Graph}
 use Rattle.rules.specs.Graph.{lentGraph}
 use Rattle.tracker.specs.Tracker.{theStart}
-use Rattle.door.specs.Words.{trackedWord}
+use Rattle.words.specs.Words.{trackedWord}
 use Rattle.door.proofs.tracks.ulz_track_start.Statement.{statement}
 use Rattle.door.proofs.tracks.ulz_track_start.Tie as tie
 

@@ -8,7 +8,7 @@ use Rattle.rules.specs.Graph.{lentGraph}
 use Rattle.tracker.specs.declared.Track.{Track}
 use Rattle.tracker.specs.declared.Tracked.{Tracked}
 use Rattle.tracker.specs.Tracker.{theStep}
-use Rattle.door.specs.Words.{markingIn, entryOf, trackedWord, trackedOut}
+use Rattle.words.specs.Words.{markingIn, entryOf, trackedWord, trackedOut}
 use Rattle.door.proofs.tracks.ulz_track_step.Statement.{statement}
 use Rattle.door.proofs.tracks.ulz_track_step.Tie as tie
 

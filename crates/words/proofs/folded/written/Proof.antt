@@ -1,0 +1,28 @@
+-- `written`: each arm is the definition at its constructor. Assumes nothing.
+use mathlib.Core.Path.{sym, ap, _∙_}
+use borrow.Author.Needs.{needs}
+use Rattle.words.specs.Folded.{verdictLength}
+use Rattle.words.proofs.folded.written.Statement.{statement}
+use Rattle.words.proofs.folded.written.Tie as tie
+
+enum-told : tie.Need-enum-told
+enum-told c = search needs
+
+enum-known-v : tie.Need-enum-known-v
+enum-known-v c = search needs
+
+refusal-requires : tie.Need-refusal-requires
+refusal-requires c κs = search needs
+
+cast-result : tie.Need-cast-result
+cast-result c = search needs
+
+returns : tie.Need-returns
+returns c = search needs
+
+returns-2 : tie.Need-returns-2
+returns-2 c = c .refusal .ensures ∙ sym (ap verdictLength (c .before .before .v .given .1))
+
+pub written-spec : {M : Type 1} → statement M
+written-spec =
+    tie.close (tie.spec enum-told enum-known-v refusal-requires cast-result returns returns-2)
