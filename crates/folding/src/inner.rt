@@ -4,17 +4,16 @@ ghost use Prim.Native.Nat.{ℕ, _<_};
 ghost use mathlib.Core.Bool.{_&&_};
 ghost use Rattle.sets.specs.Sets.{has};
 ghost use Rattle.folding.specs.Fold.{stepRecord};
+use journal::quick::has_role;
 use records::Record;
 use rules::inner::Row;
 
 // May the entry's role take the step, if its person holds it?
 pub fn admits(w: Row, role: u8) -> bool
-    requires { ⌜ role < 64 ⌝ }
+    requires { ⌜ role < 16 ⌝ }
     ensures { λ b. ⌜ b ≡ (has (w .held) role && has (w .allows) role) ⌝ }
 {
-    let held = w.held as u64;
-    let allows = w.allows as u64;
-    sets::has(held & allows, role)
+    has_role(w.held & w.allows, role)
 }
 
 // What step s needs and does.

@@ -88,8 +88,8 @@ pub const SINGLES: [u64; 64] = [
     9223372036854775808,
 ];
 
-// Is role r in x?
-fn has_role(x: u16, r: u8) -> bool
+// Is role r in x? Asked of 32 bits, which compiles to one test of a bit.
+pub fn has_role(x: u16, r: u8) -> bool
     requires { ⌜ r < 16 ⌝ }
     ensures { λ b. ⌜ b ≡ has x r ⌝ }
 {

@@ -5,17 +5,11 @@ use Rattle.sets.specs.Laws.{has-meet}
 use Rattle.folding.proofs.inner.admits.Statement.{statement}
 use Rattle.folding.proofs.inner.admits.Tie as tie
 
-cast-held : tie.Need-cast-held
-cast-held c = search needs
-
-cast-allows : tie.Need-cast-allows
-cast-allows c = search needs
-
-has-requires : tie.Need-has-requires
-has-requires c κs = search needs
+has-role-requires : tie.Need-has-role-requires
+has-role-requires c κs = search needs
 
 returns : tie.Need-returns
-returns c = c .has .ensures ∙ has-meet (c .before .before .before .args .w .held) (c .before .before .before .args .w .allows) (c .before .before .before .args .role)
+returns c = c .has-role .ensures ∙ has-meet (c .before .before .args .w .held) (c .before .before .args .w .allows) (c .before .before .args .role)
 
 pub admits-spec : {M : Type 1} → statement M
-admits-spec = tie.close (tie.spec cast-held cast-allows has-requires returns)
+admits-spec = tie.close (tie.spec has-role-requires returns)
