@@ -5,3 +5,4 @@ pub mod Table
 pub mod Codec
 pub mod Rows
 pub mod Loops
+pub mod Runs

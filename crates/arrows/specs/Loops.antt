@@ -56,34 +56,44 @@ pub arrows-end : (s : List ℕ) (i : ℕ) → length s ≤ i → arrowsIn (drop 
 unfolding arrowsIn
 arrows-end s i h = ap arrowsIn (drop-of-length-le s h)
 
--- what is left of a body, from byte i on, decides what is left to do
-pub record Reading (n : ℕ) (s table₀ : List ℕ) (next i : ℕ) (table : List ℕ) : Type 0 where
-  pub fit : fitFrom n 0 (arrowsIn s) ≡ fitFrom n next (arrowsIn (drop i s))
-  pub full : filled n 0 table₀ (arrowsIn s) ≡ filled n next table (arrowsIn (drop i s))
+-- what is left of a body from byte i on, with the table as it stands, comes to what was left from byte h on with the table as it stood
+pub record Goes (n : ℕ) (s : List ℕ) (from h : ℕ) (old : List ℕ) (next i : ℕ) (table : List ℕ) : Type 0 where
+  pub fit : fitFrom n from (arrowsIn (drop h s)) ≡ fitFrom n next (arrowsIn (drop i s))
+  pub full : filled n from old (arrowsIn (drop h s)) ≡ filled n next table (arrowsIn (drop i s))
 
-module _ (n : ℕ) (s table₀ : List ℕ) where
-  pub reading-start : Reading n s table₀ 0 0 table₀
-  reading-start = record { fit = refl; full = refl }
+module _ (n : ℕ) (s : List ℕ) where
+  pub goes-start : (next i : ℕ) (table : List ℕ) → Goes n s next i table next i table
+  goes-start next i table = record { fit = refl; full = refl }
 
-  module _ (next i : ℕ) (table : List ℕ) (r : Reading n s table₀ next i table) where
-    pub reading-more : i + 2 < length s → passes n next (arrowIn s i) ≡ true → Reading n s table₀ (place (arrowIn s i) + 1) (i + 3) (put table (arrowIn s i))
-    unfolding fitFrom filled
-    reading-more h e = record {
-      fit = r .fit ∙ ap (fitFrom n next) (arrow-at s i h) ∙ ap (λ (b : Bool). b && fitFrom n (place (arrowIn s i) + 1) (arrowsIn (drop (i + 3) s))) e;
-      full = r .full ∙ ap (filled n next table) (arrow-at s i h) ∙ ap (λ (b : Bool). cond b (filled n (place (arrowIn s i) + 1) (put table (arrowIn s i)) (arrowsIn (drop (i + 3) s))) table) e;
-    }
+  pub goes-then : (f h : ℕ) (old : List ℕ) (g i : ℕ) (mid : List ℕ) (next j : ℕ) (table : List ℕ)
+      → Goes n s f h old g i mid → Goes n s g i mid next j table → Goes n s f h old next j table
+  goes-then f h old g i mid next j table x y = record { fit = x .fit ∙ y .fit; full = x .full ∙ y .full }
 
-    pub reading-refused : n ≤ 64 → i + 2 < length s → passes n next (arrowIn s i) ≡ false → (false ≡ arrowsFit n (arrowsIn s)) × (table ≡ filled n 0 table₀ (arrowsIn s))
-    unfolding fitFrom filled
-    reading-refused k h e = (
-      sym (sym (fit-places n (arrowsIn s) k) ∙ r .fit ∙ ap (fitFrom n next) (arrow-at s i h) ∙ ap (λ (b : Bool). b && fitFrom n (place (arrowIn s i) + 1) (arrowsIn (drop (i + 3) s))) e),
-      sym (r .full ∙ ap (filled n next table) (arrow-at s i h) ∙ ap (λ (b : Bool). cond b (filled n (place (arrowIn s i) + 1) (put table (arrowIn s i)) (arrowsIn (drop (i + 3) s))) table) e),
-    )
+  -- an arrow that passes is put
+  pub goes-more : (next i : ℕ) (table : List ℕ) → i + 2 < length s → passes n next (arrowIn s i) ≡ true
+      → Goes n s next i table (place (arrowIn s i) + 1) (i + 3) (put table (arrowIn s i))
+  unfolding fitFrom filled
+  goes-more next i table h e = record {
+    fit = ap (fitFrom n next) (arrow-at s i h) ∙ ap (λ (b : Bool). b && fitFrom n (place (arrowIn s i) + 1) (arrowsIn (drop (i + 3) s))) e;
+    full = ap (filled n next table) (arrow-at s i h) ∙ ap (λ (b : Bool). cond b (filled n (place (arrowIn s i) + 1) (put table (arrowIn s i)) (arrowsIn (drop (i + 3) s))) table) e;
+  }
 
-    pub reading-done : n ≤ 64 → length s ≤ i → (true ≡ arrowsFit n (arrowsIn s)) × (table ≡ filled n 0 table₀ (arrowsIn s))
-    unfolding fitFrom filled
-    reading-done k h =
-        (sym (sym (fit-places n (arrowsIn s) k) ∙ r .fit ∙ ap (fitFrom n next) (arrows-end s i h)), sym (r .full ∙ ap (filled n next table) (arrows-end s i h)))
+-- what is left of a body decides what is left to do
+abbrev pub Reading : ℕ → List ℕ → List ℕ → ℕ → ℕ → List ℕ → Type 0
+Reading n s table₀ next i table = Goes n s 0 0 table₀ next i table
+
+module _ (n : ℕ) (s table₀ : List ℕ) (next i : ℕ) (table : List ℕ) (r : Reading n s table₀ next i table) where
+  pub reading-refused : n ≤ 64 → i + 2 < length s → passes n next (arrowIn s i) ≡ false → (false ≡ arrowsFit n (arrowsIn s)) × (table ≡ filled n 0 table₀ (arrowsIn s))
+  unfolding fitFrom filled
+  reading-refused k h e = (
+    sym (sym (fit-places n (arrowsIn s) k) ∙ r .fit ∙ ap (fitFrom n next) (arrow-at s i h) ∙ ap (λ (b : Bool). b && fitFrom n (place (arrowIn s i) + 1) (arrowsIn (drop (i + 3) s))) e),
+    sym (r .full ∙ ap (filled n next table) (arrow-at s i h) ∙ ap (λ (b : Bool). cond b (filled n (place (arrowIn s i) + 1) (put table (arrowIn s i)) (arrowsIn (drop (i + 3) s))) table) e),
+  )
+
+  pub reading-done : n ≤ 64 → length s ≤ i → (true ≡ arrowsFit n (arrowsIn s)) × (table ≡ filled n 0 table₀ (arrowsIn s))
+  unfolding fitFrom filled
+  reading-done k h =
+      (sym (sym (fit-places n (arrowsIn s) k) ∙ r .fit ∙ ap (fitFrom n next) (arrows-end s i h)), sym (r .full ∙ ap (filled n next table) (arrows-end s i h)))
 
 -- ---- writing
 

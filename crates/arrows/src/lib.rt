@@ -5,36 +5,13 @@ ghost use Prim.Native.Nat.{ℕ, _+_, _*_, _%_, _<_, _≤_};
 ghost use lib.ListN.{length};
 ghost use Rattle.rules.specs.Graph.{row};
 ghost use Rattle.numbers.specs.Numbers.{Spliced};
-ghost use Rattle.arrows.specs.Arrows.{arrowsIn, arrowsFit, known, place, put, putAll, spelt};
-ghost use Rattle.arrows.specs.Rows.{members, toward, rowArrows, kindArrows, countOf, turned};
-ghost use Rattle.arrows.specs.Loops.{filled, passes};
+ghost use Rattle.arrows.specs.Arrows.{arrowsIn, arrowsFit, putAll, spelt};
+ghost use Rattle.arrows.specs.Rows.{members, rowArrows, kindArrows, countOf, turned};
+ghost use Rattle.arrows.specs.Loops.{filled};
+use crate::runs::fits;
+use crate::runs::take;
 
-// Is the arrow between steps that there are, at a place not below `next`?
-fn fits(n: u8, next: usize, k: u8, a: u8, b: u8) -> bool
-    ensures { λ r. ⌜ r ≡ passes n next (toward k a b) ⌝ }
-{
-    (k <= 3) & (a < n) & (b < n) & (next <= place(k, a, b))
-}
-
-fn place(k: u8, a: u8, b: u8) -> usize
-    ensures { λ r. ⌜ r ≡ place (toward k a b) ⌝ }
-{
-    (k as usize) * 4096 + (a as usize) * 64 + (b as usize)
-}
-
-// A condition stands with the step that waits, any other arrow with the step that it comes from.
-fn put(table: &mut [u64; 256], k: u8, a: u8, b: u8)
-    requires { ⌜ (k < 4) × (a < 64) × (b < 64) ⌝ }
-    ensures { λ r. ⌜ now (table .exit) ≡ put (now (table .entry)) (toward k a b) ⌝ }
-{
-    if k == 0 {
-        let i = b as usize;
-        table[i] = table[i] | sets::single(a);
-    } else {
-        let i = (k as usize) * 64 + (a as usize);
-        table[i] = table[i] | sets::single(b);
-    }
-}
+pub mod runs;
 
 // Puts the arrows into the table, up to the first that does not fit. Do all fit?
 pub fn read(s: &[u8], n: u8, table: &mut [u64; 256]) -> bool
@@ -44,15 +21,12 @@ pub fn read(s: &[u8], n: u8, table: &mut [u64; 256]) -> bool
     let mut next = 0;
     let mut i = 0;
     while i < s.len() {
-        let k = s[i];
-        let a = s[i + 1];
-        let b = s[i + 2];
-        if !fits(n, next, k, a, b) {
+        if !fits(n, next, s[i], s[i + 1], s[i + 2]) {
             return false;
         }
-        put(table, k, a, b);
-        next = place(k, a, b) + 1;
-        i += 3;
+        let stop = take(s, i, n, table);
+        next = stop.next;
+        i = stop.at;
     }
     true
 }

@@ -1,16 +1,14 @@
--- `read`: what is left of the body decides what is left to do; an arrow that passes is put, one that does not ends it. Assumes nothing.
-use Prim.Native.Nat.{ℕ, _+_, _-_, _%_, _<_, _≤_}
-use mathlib.Core.Path.{_≡_, sym, _∙_, subst}
-use mathlib.Core.List.{List}
+-- `read`: what is left of the body decides what is left to do; an arrow that passes is put with the run that it begins, one that does not ends it. Assumes nothing.
+use Prim.Native.Nat.{_+_, _-_, _%_, _<_, _≤_}
+use mathlib.Core.Path.{_≡_, sym, _∙_}
 use mathlib.Core.Bool.{true}
 use native.Mathlib.Omega.{arith}
 use lib.ListN.{length}
 use borrow.Author.Needs.{needs}
 use borrow.Author.Tests.{not-true, not-false}
 use Rattle.sets.specs.Laws.{and-left}
-use Rattle.arrows.specs.Places.{Ranged, known-ranged, place-lt}
-use Rattle.arrows.specs.Arrows.{put, place}
-use Rattle.arrows.specs.Loops.{Reading, passes, arrowIn, reading-start, reading-more, reading-refused, reading-done}
+use Rattle.arrows.specs.Arrows.{known}
+use Rattle.arrows.specs.Loops.{Reading, passes, arrowIn, goes-start, goes-then, goes-more, reading-refused, reading-done}
 use Rattle.arrows.proofs.read.Statement.{statement}
 use Rattle.arrows.proofs.read.Tie as tie
 
@@ -21,22 +19,22 @@ abbrev μ-loop : tie.MeasureT-loop
 μ-loop s n table₀ next₀ i₀ table next i = length s - i
 
 loop-holds : tie.Need-loop-holds Inv-loop μ-loop
-loop-holds c = (search needs, search needs, reading-start _ _ _)
+loop-holds c = (search needs, search needs, goes-start _ _ _ _ _)
 
-shared-slice-read-k : tie.Need-shared-slice-read-k Inv-loop μ-loop
-shared-slice-read-k c = search needs
+shared-slice-read-fits : tie.Need-shared-slice-read-fits Inv-loop μ-loop
+shared-slice-read-fits c = search needs
 
-add-a : tie.Need-add-a Inv-loop μ-loop
-add-a c = search needs
+add-fits : tie.Need-add-fits Inv-loop μ-loop
+add-fits c = search needs
 
-shared-slice-read-a : tie.Need-shared-slice-read-a Inv-loop μ-loop
-shared-slice-read-a c = search needs
+shared-slice-read-fits-2 : tie.Need-shared-slice-read-fits-2 Inv-loop μ-loop
+shared-slice-read-fits-2 c = search needs
 
-add-b : tie.Need-add-b Inv-loop μ-loop
-add-b c = search needs
+add-fits-2 : tie.Need-add-fits-2 Inv-loop μ-loop
+add-fits-2 c = search needs
 
-shared-slice-read-b : tie.Need-shared-slice-read-b Inv-loop μ-loop
-shared-slice-read-b c = search needs
+shared-slice-read-fits-3 : tie.Need-shared-slice-read-fits-3 Inv-loop μ-loop
+shared-slice-read-fits-3 c = search needs
 
 fits-requires : tie.Need-fits-requires Inv-loop μ-loop
 fits-requires c κs = search needs
@@ -48,43 +46,29 @@ returns c =
     let h : l .i + 2 < length (a .s .now) = omega arith in
     reading-refused (a .n) (a .s .now) (a .table .now) (l .next) (l .i) (l .table) (l .inv .2) (c .before .before .before .before .before .before .before .before .pre .0) h (sym (c .before .fits2 .ensures) ∙ not-true _ (c .if1 .taken))
 
-put-requires : tie.Need-put-requires Inv-loop μ-loop
-put-requires c κs =
+take-requires : tie.Need-take-requires Inv-loop μ-loop
+take-requires c κs =
     let a = c .before .before .before .before .before .before .before .before .before .args in
     let l = c .before .before .before .before .before .before .before .loop in
     let pass : passes (a .n) (l .next) (arrowIn (a .s .now) (l .i)) ≡ true = sym (c .before .before .fits2 .ensures) ∙ not-false _ (c .before .if1 .left) in
-    let r : Ranged (arrowIn (a .s .now) (l .i)) = known-ranged (a .n) _ (c .before .before .before .before .before .before .before .before .before .pre .0) (and-left _ _ pass) in
-    (r .kind-in, r .from-in, r .to-in)
-
-place-requires : tie.Need-place-requires Inv-loop μ-loop
-place-requires c κs = search needs
-
-add-next : tie.Need-add-next Inv-loop μ-loop
-add-next c =
-    let a = c .before .before .before .before .before .before .before .before .before .before .before .args in
-    let l = c .before .before .before .before .before .before .before .before .before .loop in
-    let pass : passes (a .n) (l .next) (arrowIn (a .s .now) (l .i)) ≡ true = sym (c .before .before .before .before .fits2 .ensures) ∙ not-false _ (c .before .before .before .if1 .left) in
-    let b : place (arrowIn (a .s .now) (l .i)) < 16384 = place-lt (arrowIn (a .s .now) (l .i)) (known-ranged (a .n) (arrowIn (a .s .now) (l .i)) (c .before .before .before .before .before .before .before .before .before .before .before .pre .0) (and-left _ _ pass)) in
-    let e : c .place .result ≡ place (arrowIn (a .s .now) (l .i)) = c .place .ensures in
-    omega arith
-
-add-i : tie.Need-add-i Inv-loop μ-loop
-add-i c = search needs
+    (c .before .before .before .before .before .before .before .before .before .pre .0, c .before .before .before .before .before .before .before .before .before .pre .1, l .inv .1, c .before .before .before .before .before .before .loop-test .taken, and-left (known (a .n) (arrowIn (a .s .now) (l .i))) _ pass)
 
 loop-less : tie.Need-loop-less Inv-loop μ-loop
-loop-less c = search needs
+loop-less c =
+    let a = c .before .before .before .before .before .before .before .before .before .before .args in
+    let l = c .before .before .before .before .before .before .before .before .loop in
+    let p = c .take .ensures in
+    omega arith
 
 loop-again : tie.Need-loop-again Inv-loop μ-loop
 loop-again c =
-    let a = c .before .before .before .before .before .before .before .before .before .before .before .args in
-    let l = c .before .before .before .before .before .before .before .before .before .loop in
-    let pass : passes (a .n) (l .next) (arrowIn (a .s .now) (l .i)) ≡ true = sym (c .before .before .before .before .fits2 .ensures) ∙ not-false _ (c .before .before .before .if1 .left) in
-    let h : l .i + 2 < length (a .s .now) = omega arith in (
-      search needs,
-      search needs,
-      subst (λ (t : List ℕ). Reading (a .n) (a .s .now) (a .table .now) (c .place .result + 1) (l .i + 3) t) (sym (c .before .put .ensures))
-          (subst (λ (p : ℕ). Reading (a .n) (a .s .now) (a .table .now) (p + 1) (l .i + 3) (put (l .table) (arrowIn (a .s .now) (l .i)))) (sym (c .place .ensures)) (reading-more (a .n) (a .s .now) (a .table .now) (l .next) (l .i) (l .table) (l .inv .2) h pass)),
-    )
+    let a = c .before .before .before .before .before .before .before .before .before .before .args in
+    let l = c .before .before .before .before .before .before .before .before .loop in
+    let h : l .i + 2 < length (a .s .now) = omega arith in
+    let pass : passes (a .n) (l .next) (arrowIn (a .s .now) (l .i)) ≡ true = sym (c .before .before .before .fits2 .ensures) ∙ not-false _ (c .before .before .if1 .left) in
+    let p = c .take .ensures in
+    let more = goes-more (a .n) (a .s .now) (l .next) (l .i) (l .table) h pass in
+    (p .1, p .2, goes-then (a .n) (a .s .now) 0 0 (a .table .now) _ _ _ _ _ _ (l .inv .2) (goes-then (a .n) (a .s .now) _ _ _ _ _ _ _ _ _ more (p .3)))
 
 returns-2 : tie.Need-returns-2 Inv-loop μ-loop
 returns-2 c =
@@ -99,17 +83,14 @@ read-spec =
     Inv-loop
     μ-loop
     loop-holds
-    shared-slice-read-k
-    add-a
-    shared-slice-read-a
-    add-b
-    shared-slice-read-b
+    shared-slice-read-fits
+    add-fits
+    shared-slice-read-fits-2
+    add-fits-2
+    shared-slice-read-fits-3
     fits-requires
     returns
-    put-requires
-    place-requires
-    add-next
-    add-i
+    take-requires
     loop-less
     loop-again
     returns-2)

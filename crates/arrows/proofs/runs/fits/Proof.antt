@@ -1,7 +1,7 @@
 -- `fits`: the code is the definition, with the place computed. Assumes nothing.
 use borrow.Author.Needs.{needs}
-use Rattle.arrows.proofs.fits.Statement.{statement}
-use Rattle.arrows.proofs.fits.Tie as tie
+use Rattle.arrows.proofs.runs.fits.Statement.{statement}
+use Rattle.arrows.proofs.runs.fits.Tie as tie
 
 place-requires : tie.Need-place-requires
 place-requires c κs = search needs
