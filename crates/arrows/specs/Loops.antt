@@ -9,12 +9,13 @@ use native.Mathlib.Decide.{decLt}
 use lib.ListN.{length, getD, set, drop, length-set, length-map, drop-of-length-le}
 use lib.Seq.{sets, drop-cons}
 use lib.Dec.{leb}
-use Rattle.sets.specs.Sets.{has, single, union, minus, lowest}
+use Rattle.sets.specs.Sets.{has, single, union, lowest}
 use Rattle.sets.specs.Laws.{and-left, and-right, lowest-has, has-above}
 use Rattle.rules.specs.Graph.{row}
 use Rattle.numbers.specs.Numbers.{Spliced}
 use Rattle.numbers.specs.Laws.{spliced-then}
 use Rattle.arrows.specs.Arrows.{Arrow, arrowsIn, known, arrowsFit, put, putAll, place, spelt}
+use Rattle.sets.specs.Later.{later, later-minus}
 use Rattle.arrows.specs.Lists.{listed-length}
 use Rattle.arrows.specs.Places.{fitFrom, fit-places, length-spelt, spelt-append}
 use Rattle.arrows.specs.Rows.{members, members-none, members-more, toward, rowArrows, kindArrows, countOf, count-arrows}
@@ -97,16 +98,19 @@ module _ (n : ℕ) (s table₀ : List ℕ) (next i : ℕ) (table : List ℕ) (r 
 
 -- ---- writing
 
+members-later : (x : ℕ) → x < 2 ^ 64 → (x ≡ 0 → ⊥) → members x ≡ lowest 64 x ∷ members (later x)
+members-later x small some = members-more x small some ∙ ap (λ (y : ℕ). lowest 64 x ∷ members y) (sym (later-minus 64 x small some))
+
 -- the lowest step of a row, and the rest of the row
-pub row-more : (k a x : ℕ) → x < 2 ^ 64 → (x ≡ 0 → ⊥) → rowArrows k a x ≡ toward k a (lowest 64 x) ∷ rowArrows k a (minus x (single (lowest 64 x)))
-row-more k a x small some = ap (map (toward k a)) (members-more x small some)
+pub row-more : (k a x : ℕ) → x < 2 ^ 64 → (x ≡ 0 → ⊥) → rowArrows k a x ≡ toward k a (lowest 64 x) ∷ rowArrows k a (later x)
+row-more k a x small some = ap (map (toward k a)) (members-later x small some)
 
 pub row-none : (k a x : ℕ) → x ≡ 0 → rowArrows k a x ≡ []
 row-none k a x e = ap (rowArrows k a) e ∙ ap (map (toward k a)) members-none
 
 -- one step fewer
-pub members-less : (x : ℕ) → x < 2 ^ 64 → (x ≡ 0 → ⊥) → length (members x) ≡ suc (length (members (minus x (single (lowest 64 x)))))
-members-less x small some = ap length (members-more x small some)
+pub members-less : (x : ℕ) → x < 2 ^ 64 → (x ≡ 0 → ⊥) → length (members x) ≡ suc (length (members (later x)))
+members-less x small some = ap length (members-later x small some)
 
 pub members-nil : (x : ℕ) → x ≡ 0 → length (members x) ≡ 0
 members-nil x e = ap (λ (y : ℕ). length (members y)) e ∙ ap length members-none
@@ -128,11 +132,11 @@ sets-three l v i a b c =
 -- one arrow is written, the rest of the row is left
 pub write-more : (room : List ℕ) (to k a x : ℕ) → x < 2 ^ 64 → (x ≡ 0 → ⊥)
     → sets room to (spelt (rowArrows k a x))
-    ≡ sets (set (set (set room to k) (to + 1) a) (to + 2) (lowest 64 x)) (to + 3) (spelt (rowArrows k a (minus x (single (lowest 64 x)))))
+    ≡ sets (set (set (set room to k) (to + 1) a) (to + 2) (lowest 64 x)) (to + 3) (spelt (rowArrows k a (later x)))
 unfolding spelt
 write-more room to k a x small some =
     ap (λ (l : List Arrow). sets room to (spelt l)) (row-more k a x small some)
-    ∙ sets-three room (spelt (rowArrows k a (minus x (single (lowest 64 x))))) to k a (lowest 64 x)
+    ∙ sets-three room (spelt (rowArrows k a (later x))) to k a (lowest 64 x)
 
 pub write-done : (room : List ℕ) (to k a x : ℕ) → x ≡ 0 → sets room to (spelt (rowArrows k a x)) ≡ room
 unfolding spelt
@@ -179,7 +183,7 @@ putAll-append t (x ∷ rest) m = putAll-append (put t x) rest m
 
 -- one step of the row is put, the rest is left
 pub spill-more : (t : List ℕ) (b x : ℕ) → x < 2 ^ 64 → (x ≡ 0 → ⊥)
-    → putAll t (rowArrows 0 b x) ≡ putAll (set t (lowest 64 x) (union (row t (lowest 64 x)) (single b))) (rowArrows 0 b (minus x (single (lowest 64 x))))
+    → putAll t (rowArrows 0 b x) ≡ putAll (set t (lowest 64 x) (union (row t (lowest 64 x)) (single b))) (rowArrows 0 b (later x))
 unfolding putAll put
 spill-more t b x small some = ap (putAll t) (row-more 0 b x small some)
 

@@ -64,7 +64,7 @@ fn spill(x: u64, b: u8, table: &mut [u64; 64])
         let a = sets::lowest(rest);
         let i = a as usize;
         table[i] = table[i] | one;
-        rest = rest ^ (rest & sets::single(a));
+        rest = rest & (rest - 1);
     }
 }
 
@@ -96,7 +96,7 @@ fn write_row(k: u8, a: u8, x: u64, room: &mut [u8], at: usize) -> usize
         room[to + 1] = a;
         room[to + 2] = b;
         to += 3;
-        rest = rest ^ (rest & sets::single(b));
+        rest = rest & (rest - 1);
     }
     to
 }

@@ -1,11 +1,12 @@
 -- `spill`: the steps that are left, put into the table as it stands, give what all of them give at the start. Assumes nothing.
-use Prim.Native.Nat.{ℕ, suc, _<_, _^_}
+use Prim.Native.Nat.{suc, _-_, _<_, _^_}
 use mathlib.Core.Path.{_≡_, refl, sym, _∙_}
 use native.Mathlib.Omega.{arith}
 use lib.ListN.{length}
 use borrow.Author.Needs.{needs}
-use Rattle.sets.specs.Sets.{lowest, minus, single}
-use Rattle.sets.specs.Laws.{minus-lt}
+use Rattle.sets.specs.Sets.{lowest}
+use Rattle.sets.specs.Laws.{meet-lt}
+use Rattle.sets.specs.Later.{later}
 use Rattle.arrows.specs.Arrows.{putAll}
 use Rattle.arrows.specs.Rows.{members, rowArrows}
 use Rattle.arrows.specs.Loops.{lowest-below, members-less, spill-more, spill-done}
@@ -32,7 +33,6 @@ cast-i c = search needs
 
 mul-table : tie.Need-mul-table Inv-loop μ-loop
 mul-table c =
-    let a = c .before .before .before .before .args in
     let l = c .before .before .loop in
     let low : lowest 64 (l .rest) < 64 = lowest-below (l .rest) (l .inv .0) (c .before .loop-test .taken) in
     let e : c .lowest .result ≡ lowest 64 (l .rest) = c .lowest .ensures in
@@ -40,7 +40,6 @@ mul-table c =
 
 element-copy-out-table : tie.Need-element-copy-out-table Inv-loop μ-loop
 element-copy-out-table c =
-    let a = c .before .before .before .before .args in
     let l = c .before .before .loop in
     let low : lowest 64 (l .rest) < 64 = lowest-below (l .rest) (l .inv .0) (c .before .loop-test .taken) in
     let e : c .lowest .result ≡ lowest 64 (l .rest) = c .lowest .ensures in
@@ -48,7 +47,6 @@ element-copy-out-table c =
 
 mul-table-2 : tie.Need-mul-table-2 Inv-loop μ-loop
 mul-table-2 c =
-    let a = c .before .before .before .before .before .args in
     let l = c .before .before .before .loop in
     let low : lowest 64 (l .rest) < 64 = lowest-below (l .rest) (l .inv .0) (c .before .before .loop-test .taken) in
     let e : c .before .lowest .result ≡ lowest 64 (l .rest) = c .before .lowest .ensures in
@@ -56,32 +54,26 @@ mul-table-2 c =
 
 element-write-table : tie.Need-element-write-table Inv-loop μ-loop
 element-write-table c =
-    let a = c .before .before .before .before .before .args in
     let l = c .before .before .before .loop in
     let low : lowest 64 (l .rest) < 64 = lowest-below (l .rest) (l .inv .0) (c .before .before .loop-test .taken) in
     let e : c .before .lowest .result ≡ lowest 64 (l .rest) = c .before .lowest .ensures in
     omega arith
 
-single-requires-2 : tie.Need-single-requires-2 Inv-loop μ-loop
-single-requires-2 c κs =
-    let a = c .before .before .before .before .before .args in
-    let l = c .before .before .before .loop in
-    let low : lowest 64 (l .rest) < 64 = lowest-below (l .rest) (l .inv .0) (c .before .before .loop-test .taken) in
-    let e : c .before .lowest .result ≡ lowest 64 (l .rest) = c .before .lowest .ensures in
-    omega arith
+sub-rest : tie.Need-sub-rest Inv-loop μ-loop
+sub-rest c = search needs
 
 loop-less : tie.Need-loop-less Inv-loop μ-loop
 loop-less c =
-    let a = c .before .before .before .before .before .before .args in
-    let l = c .before .before .before .before .loop in
-    simp (c .single2 .ensures, c .before .before .lowest .ensures) (let less : length (members (l .rest)) ≡ suc (length (members (minus (l .rest) (single (lowest 64 (l .rest)))))) = members-less (l .rest) (l .inv .0) (c .before .before .before .loop-test .taken) in omega arith)
+    let l = c .before .before .before .loop in
+    let less : length (members (l .rest)) ≡ suc (length (members (later (l .rest)))) = members-less (l .rest) (l .inv .0) (c .before .before .loop-test .taken) in
+    omega arith
 
 loop-again : tie.Need-loop-again Inv-loop μ-loop
 loop-again c =
-    let a = c .before .before .before .before .before .before .args in
-    let l = c .before .before .before .before .loop in
-    simp (c .single2 .ensures, c .before .before .lowest .ensures, c .before .before .before .before .before .single .ensures)
-    (minus-lt 64 (l .rest) (single (lowest 64 (l .rest))) (l .inv .0), l .inv .1 ∙ spill-more (l .table) (a .b) (l .rest) (l .inv .0) (c .before .before .before .loop-test .taken))
+    let a = c .before .before .before .before .before .args in
+    let l = c .before .before .before .loop in
+    simp (c .before .lowest .ensures, c .before .before .before .before .single .ensures)
+    (meet-lt 64 (l .rest) (l .rest - 1) (l .inv .0), l .inv .1 ∙ spill-more (l .table) (a .b) (l .rest) (l .inv .0) (c .before .before .loop-test .taken))
 
 returns : tie.Need-returns Inv-loop μ-loop
 returns c =
@@ -103,7 +95,7 @@ spill-spec =
     element-copy-out-table
     mul-table-2
     element-write-table
-    single-requires-2
+    sub-rest
     loop-less
     loop-again
     returns)
