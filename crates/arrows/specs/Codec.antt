@@ -9,7 +9,7 @@ use native.Mathlib.Decide.{decLt, decLe}
 use lib.ListN.{length}
 use lib.Dec.{eqb, ltb, leb, lit≤}
 use borrow.Author.Tests.{lt-ltb, le-ltb, le-leb, lt-leb, leb-true, ltb-true, eq-eqb, ne-eqb, eqb-true}
-use Rattle.sets.specs.Laws.{and-left, and-right, and-intro}
+use Rattle.sets.specs.Truth.{and-left, and-right, and-intro}
 use Rattle.rules.specs.Graph.{row}
 use Rattle.arrows.specs.Arrows.{Arrow, known, allKnown, ascending, arrowsFit, tableOf, held, place, arrowAt, listed, keptIf, arrowsOf}
 use Rattle.arrows.specs.Lists.{member, upFrom, allBelow, listed-same, listed-members, member-listed}

@@ -10,7 +10,7 @@ use native.Mathlib.Decide.{decLt, decLe}
 use lib.ListN.{length}
 use lib.Dec.{eqb, ltb, leb}
 use borrow.Author.Tests.{lt-ltb, le-ltb, le-leb, lt-leb, leb-true, eq-eqb, ne-eqb, eqb-true}
-use Rattle.sets.specs.Laws.{and-left, and-right, and-intro}
+use Rattle.sets.specs.Truth.{and-left, and-right, and-intro}
 use Rattle.arrows.specs.Arrows.{listed, keptIf}
 
 -- the numbers go up, from s on

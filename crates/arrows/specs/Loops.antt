@@ -10,7 +10,8 @@ use lib.ListN.{length, getD, set, drop, length-set, length-map, drop-of-length-l
 use lib.Seq.{sets, drop-cons}
 use lib.Dec.{leb}
 use Rattle.sets.specs.Sets.{has, single, union, lowest}
-use Rattle.sets.specs.Laws.{and-left, and-right, lowest-has, has-above}
+use Rattle.sets.specs.Truth.{and-left, and-right}
+use Rattle.sets.specs.Laws.{lowest-has, has-above}
 use Rattle.rules.specs.Graph.{row}
 use Rattle.numbers.specs.Numbers.{Spliced}
 use Rattle.numbers.specs.Laws.{spliced-then}
@@ -114,13 +115,6 @@ members-less x small some = ap length (members-later x small some)
 
 pub members-nil : (x : ℕ) → x ≡ 0 → length (members x) ≡ 0
 members-nil x e = ap (λ (y : ℕ). length (members y)) e ∙ ap length members-none
-
-pub lowest-below : (x : ℕ) → x < 2 ^ 64 → (x ≡ 0 → ⊥) → lowest 64 x < 64
-lowest-below x small some = go (decLt (lowest 64 x) 64)
-  where
-    go : Dec (lowest 64 x < 64) → lowest 64 x < 64
-    go (yes l) = l
-    go (no l) = absurd (true≢false (sym (lowest-has 64 x small some) ∙ has-above 64 x (lowest 64 x) small (omega arith)))
 
 sets-three : (l v : List ℕ) (i a b c : ℕ) → sets l i (a ∷ b ∷ c ∷ v) ≡ sets (set (set (set l i a) (i + 1) b) (i + 2) c) (i + 3) v
 sets-three l v i a b c =

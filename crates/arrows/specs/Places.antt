@@ -8,7 +8,7 @@ use native.Mathlib.Decide.{decLt, decLe}
 use lib.ListN.{length}
 use lib.Dec.{eqb, ltb, leb}
 use borrow.Author.Tests.{lt-ltb, le-ltb, le-leb, lt-leb, leb-true, ltb-true, eq-eqb, ne-eqb, eqb-true}
-use Rattle.sets.specs.Laws.{and-left, and-right, and-intro, same-truth}
+use Rattle.sets.specs.Truth.{and-left, and-right, and-intro, same-truth}
 use Rattle.arrows.specs.Arrows.{Arrow, arrowsIn, spelt, known, before, allKnown, ascending, arrowsFit, place, arrowAt}
 
 -- an arrow of one of the four kinds between two of 64 steps

@@ -15,6 +15,7 @@ use lib.Pow.{pow-mono}
 use borrow.Author.Tests.{lt-ltb, le-ltb, eq-eqb, ne-eqb, eqb-true}
 use Rattle.sets.specs.Sets.{has, single, minus, lowest}
 use Rattle.sets.specs.Laws.{Least, lowest-least, lowest-has, has-minus, has-single, has-zero, has-above, ext, has-half, has-low}
+use Rattle.sets.specs.Truth.{and-false, and-true}
 use Rattle.rules.specs.Graph.{row}
 use Rattle.arrows.specs.Arrows.{Arrow, spelt, rowAt, columnAt, put, putAll, held, place, arrowAt, listed, keptIf, arrowsOf, pick, fourTables}
 use Rattle.arrows.specs.Lists.{member, listed-same, listed-add, listed-none, listed-first, member-listed}
@@ -49,14 +50,6 @@ members-more x small some =
     ∙ listed-same d (suc r) (has y) (has x) (λ p h i. has-minus x (single r) p ∙ ap (λ (b : Bool). has x p && not b) (has-single r p ∙ ne-eqb r p (λ q. let z : ⊥ = omega arith in z)) ∙ and-true (has x p)) in
     ap (λ (k : ℕ). listed k 0 (has x)) (sym e) ∙ listed-first r d (has x) (l .none) here ∙ ap (λ (m : List ℕ). r ∷ m) (sym rest)
   where
-    and-false : (b : Bool) → (b && false) ≡ false
-    and-false true = refl
-    and-false false = refl
-
-    and-true : (b : Bool) → (b && true) ≡ b
-    and-true true = refl
-    and-true false = refl
-
     below : (r : ℕ) → has x r ≡ true → Dec (r < 64) → r < 64
     below r h (yes l) = l
     below r h (no l) = absurd (true≢false (sym h ∙ has-above 64 x r small (omega arith)))

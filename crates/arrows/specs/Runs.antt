@@ -10,7 +10,8 @@ use lib.Seq.{getD-set-same, set-set, set-out}
 use lib.Dec.{eqb, ltb, leb}
 use borrow.Author.Tests.{leb-true, ltb-true, le-leb, lt-ltb, eqb-true}
 use Rattle.sets.specs.Sets.{has, single, union}
-use Rattle.sets.specs.Laws.{ext, has-union, and-left, and-right, and-intro}
+use Rattle.sets.specs.Truth.{and-left, and-right, and-intro}
+use Rattle.sets.specs.Laws.{ext, has-union}
 use Rattle.rules.specs.Graph.{row}
 use Rattle.numbers.specs.Numbers.{number, Bytes}
 use Rattle.numbers.specs.Laws.{number-two}

@@ -12,7 +12,8 @@ use lib.Dec.{eqb, ltb, leb, lit<}
 use lib.Pow.{pow-pos}
 use borrow.Author.Tests.{lt-ltb, le-ltb, eq-eqb, ne-eqb, eqb-true}
 use Rattle.sets.specs.Sets.{has, single, union}
-use Rattle.sets.specs.Laws.{has-union, has-single, has-zero, has-above, ext, union-lt, single-lt, and-left, and-right}
+use Rattle.sets.specs.Truth.{and-left, and-right, or-false}
+use Rattle.sets.specs.Laws.{has-union, has-single, has-zero, has-above, ext, union-lt, single-lt}
 use Rattle.rules.specs.Graph.{row}
 use Rattle.arrows.specs.Arrows.{Arrow, rowAt, columnAt, put, putAll, tableOf, held, place, arrowAt, known, allKnown}
 use Rattle.arrows.specs.Lists.{member}
@@ -168,10 +169,6 @@ row-empty m i = go (decLt i m)
     go : Dec (i < m) → row (replicate m 0) i ≡ 0
     go (yes h) = getD-replicate m i 0 0 h
     go (no h) = List·getD-eq-default (replicate m 0) 0 {n = i} (subst (λ (k : ℕ). k ≤ i) (sym (length-replicate {A = ℕ} m 0)) (omega arith))
-
-or-false : (b : Bool) → (b || false) ≡ b
-or-false true = refl
-or-false false = refl
 
 -- ---- a table that arrows filled
 

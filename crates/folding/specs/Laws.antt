@@ -11,7 +11,8 @@ use lib.Pow.{pow-pos}
 use lib.Dec.{ltb}
 use borrow.Author.Tests.{ltb-true, eqb-true, eq-eqb}
 use Rattle.sets.specs.Sets.{has, single, union, meet, minus, empty, subset}
-use Rattle.sets.specs.Laws.{and-left, and-right, same-truth, has-single, subset-members, members-subset, single-lt, minus-lt}
+use Rattle.sets.specs.Truth.{and-left, and-right, same-truth}
+use Rattle.sets.specs.Laws.{has-single, subset-members, members-subset, single-lt, minus-lt}
 use Rattle.sets.specs.Digits.{at-digit, as-sets}
 use Rattle.rules.specs.declared.Graph.{Graph}
 use Rattle.rules.specs.declared.inner.Row.{Row}

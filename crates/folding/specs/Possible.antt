@@ -10,7 +10,8 @@ use lib.ListN.{length, List·getD-eq-default}
 use lib.Dec.{ltb}
 use borrow.Author.Tests.{ltb-true, lt-ltb, le-ltb, not-false}
 use Rattle.sets.specs.Sets.{has, within, every}
-use Rattle.sets.specs.Laws.{and-left, and-right, and-intro, same-truth, every-at, has-zero, has-above, member-below}
+use Rattle.sets.specs.Truth.{and-left, and-right, and-intro, same-truth}
+use Rattle.sets.specs.Laws.{every-at, has-zero, has-above, member-below}
 use Rattle.rules.specs.declared.Graph.{Graph}
 use Rattle.rules.specs.declared.Entry.{Entry}
 use Rattle.rules.specs.declared.Verdict.{Verdict}

@@ -11,7 +11,8 @@ use lib.Dec.{ltb}
 use lib.ListN.{length, List·getD-eq-default}
 use borrow.Author.Tests.{ltb-true, lt-ltb, le-ltb, not-true, not-false}
 use Rattle.sets.specs.Sets.{has, meet, empty, within}
-use Rattle.sets.specs.Laws.{and-left, and-right, and-intro, has-meet, has-zero, has-above, every-at}
+use Rattle.sets.specs.Truth.{and-left, and-right, and-intro}
+use Rattle.sets.specs.Laws.{has-meet, has-zero, has-above, every-at}
 use Rattle.rules.specs.declared.Graph.{Graph}
 use Rattle.rules.specs.declared.Marking.{Marking}
 use Rattle.rules.specs.declared.Entry.{Entry}

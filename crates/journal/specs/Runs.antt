@@ -9,7 +9,7 @@ use native.Mathlib.Nat.{add-zero}
 use lib.ListN.{length, getD, take, length-append}
 use lib.Pow.{pow-pos}
 use borrow.Author.Tests.{not-false, eq-eqb, le-leb}
-use Rattle.sets.specs.Laws.{and-intro}
+use Rattle.sets.specs.Truth.{and-intro}
 use Rattle.rules.specs.declared.Graph.{Graph}
 use Rattle.rules.specs.declared.Marking.{Marking}
 use Rattle.rules.specs.declared.Entry.{Entry}

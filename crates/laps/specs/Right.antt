@@ -9,7 +9,8 @@ use native.Mathlib.Decide.{decLt}
 use lib.ListN.{length}
 use borrow.Author.Tests.{ltb-true, lt-ltb, eqb-false, not-false}
 use Rattle.sets.specs.Sets.{has, empty, full, lowest}
-use Rattle.sets.specs.Laws.{and-right, has-full, has-above, lt-of-members, lowest-least, lowest-has, empty-members}
+use Rattle.sets.specs.Truth.{and-right}
+use Rattle.sets.specs.Laws.{has-full, has-above, lt-of-members, lowest-least, lowest-has, empty-members}
 use Rattle.rules.specs.declared.Graph.{Graph}
 use Rattle.rules.specs.declared.Marking.{Marking}
 use Rattle.rules.specs.declared.Entry.{Entry}

@@ -10,7 +10,7 @@ use lib.ListN.{length, getD, take, drop, length-append, length-map, length-drop,
 use lib.Seq.{drop-drop, getD-drop, take-append-seam, drop-length, take-add}
 use lib.Dec.{eqb}
 use borrow.Author.Tests.{eq-eqb, eqb-true}
-use Rattle.sets.specs.Laws.{and-left, and-right, and-intro}
+use Rattle.sets.specs.Truth.{and-left, and-right, and-intro}
 use Rattle.numbers.specs.Numbers.{number, bytes, Bytes}
 use Rattle.numbers.specs.Laws.{length-bytes, number-bytes, bytes-number, number-lt}
 use Rattle.layout.specs.Layout.{lineOf, contents, joined, start, front, laid, kindAt, offsetAt, sizeAt, bodyAt, follows, contentsFit}

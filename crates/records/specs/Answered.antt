@@ -6,7 +6,8 @@ use native.Mathlib.Omega.{arith}
 use lib.Dec.{leb}
 use borrow.Author.Tests.{leb-true}
 use Rattle.sets.specs.Sets.{minus}
-use Rattle.sets.specs.Laws.{and-right, union-lt, minus-lt}
+use Rattle.sets.specs.Truth.{and-right}
+use Rattle.sets.specs.Laws.{union-lt, minus-lt}
 use Rattle.rules.specs.declared.Marking.{Marking}
 use Rattle.rules.specs.declared.Refusal.the-variants.{Counts, Outside, IllFormed, NotApplied}
 use Rattle.rules.specs.declared.Verdict.{Verdict}

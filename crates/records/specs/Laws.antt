@@ -9,7 +9,8 @@ use lib.ListN.{getD}
 use lib.Bits.{or-zero-r}
 use borrow.Author.Tests.{eqb-true}
 use Rattle.sets.specs.Sets.{union, meet, minus, empty, subset}
-use Rattle.sets.specs.Laws.{empty-union, and-right, minus-zero}
+use Rattle.sets.specs.Truth.{and-right}
+use Rattle.sets.specs.Laws.{empty-union, minus-zero}
 use Rattle.sets.specs.Digits.{at-digit, as-sets, by-digits}
 use Rattle.rules.specs.declared.Marking.{Marking}
 use Rattle.records.specs.declared.Record.{Record}

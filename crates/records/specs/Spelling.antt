@@ -11,7 +11,7 @@ use lib.Seq.{sets-eq, getD-drop, drop-drop}
 use lib.Pow.{pow-mono}
 use lib.Dec.{eqb, leb}
 use borrow.Author.Tests.{eq-eqb, le-leb, eqb-true, leb-true}
-use Rattle.sets.specs.Laws.{and-left, and-right}
+use Rattle.sets.specs.Truth.{and-left, and-right}
 use Rattle.rules.specs.First.{first}
 use Rattle.rules.specs.Graph.{within1to}
 use Rattle.numbers.specs.Numbers.{number, bytes, Bytes, Spliced}

@@ -11,7 +11,8 @@ use lib.Dec.{leb}
 use lib.Pow.{pow-pos}
 use borrow.Author.Tests.{eqb-true, eq-eqb, ltb-true, lt-ltb}
 use Rattle.sets.specs.Sets.{union, meet, minus, empty, subset, within, full}
-use Rattle.sets.specs.Laws.{and-left, and-right, and-intro, union-lt, meet-lt, minus-lt, within-full, within-union, empty-union}
+use Rattle.sets.specs.Truth.{and-left, and-right, and-intro}
+use Rattle.sets.specs.Laws.{union-lt, meet-lt, minus-lt, within-full, within-union, empty-union}
 use Rattle.sets.specs.Digits.{at-digit, as-sets, by-digits}
 use Rattle.rules.specs.declared.Marking.{Marking}
 use Rattle.rules.specs.Sound.{Inside}

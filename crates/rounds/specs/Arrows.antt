@@ -13,7 +13,8 @@ use lib.Dec.{eqb, ltb, leb, lit<}
 use lib.Pow.{pow-pos, pow-mono}
 use borrow.Author.Tests.{lt-ltb, le-ltb, le-leb, ltb-true, eqb-true}
 use Rattle.sets.specs.Sets.{has, within}
-use Rattle.sets.specs.Laws.{and-left, and-right, and-intro, has-zero, has-above, ext, lt-of-members, every-of}
+use Rattle.sets.specs.Truth.{and-left, and-right, and-intro, is-false, or-cases}
+use Rattle.sets.specs.Laws.{has-zero, has-above, ext, lt-of-members, every-of}
 use Rattle.rules.specs.Graph.{row, keeps}
 use Rattle.arrows.specs.Arrows.{Arrow, known, allKnown, arrowsFit, rowAt, columnAt, tableOf, held, place, arrowAt, arrowsOf, pick, fourTables}
 use Rattle.arrows.specs.Lists.{member, listed-same}
@@ -23,7 +24,6 @@ use Rattle.arrows.specs.Codec.{arrows-of-table, arrows-fit, table-of-arrows}
 use Rattle.arrows.specs.Rows.{Kept, four-row}
 use Rattle.bodies.specs.Tables.{row-tabled, row-beyond, tabled-same, tabled-rows}
 use Rattle.bodies.specs.Bodies.{quarter}
-use Rattle.rounds.specs.Truth.{is-false, or-cases}
 
 -- ---- a table that keeps to n steps
 

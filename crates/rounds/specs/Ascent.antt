@@ -10,9 +10,8 @@ use native.Mathlib.Omega.{arith}
 use lib.ListN.{length, getD}
 use lib.Dec.{eqb, ltb, leb}
 use borrow.Author.Tests.{lt-ltb, le-leb, eq-eqb, ltb-true, leb-true, eqb-true}
-use Rattle.sets.specs.Laws.{and-left, and-right, and-intro}
+use Rattle.sets.specs.Truth.{and-left, and-right, and-intro, or-cases, or-first, or-second}
 use Rattle.arrows.specs.Arrows.{Arrow, known, before, allKnown, ascending, arrowsFit}
-use Rattle.rounds.specs.Truth.{or-cases, or-first, or-second}
 
 -- ---- the order of triples
 

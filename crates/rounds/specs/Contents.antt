@@ -10,7 +10,7 @@ use native.Mathlib.Decide.{decLe}
 use lib.ListN.{length, getD}
 use lib.Dec.{eqb}
 use borrow.Author.Tests.{eq-eqb, eqb-true}
-use Rattle.sets.specs.Laws.{and-left, and-right, and-intro}
+use Rattle.sets.specs.Truth.{and-left, and-right, and-intro}
 use Rattle.layout.specs.Layout.{start, kindAt, offsetAt, sizeAt, follows, contentsFit}
 
 -- the lines from line i on, of `count` in all, where the next body starts at `at`

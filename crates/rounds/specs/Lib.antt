@@ -1,4 +1,3 @@
-pub mod Truth
 pub mod Smallest
 pub mod Numbers
 pub mod Tests

@@ -6,7 +6,8 @@ use mathlib.Core.Bool.{true, true≢false}
 use native.Mathlib.Omega.{arith}
 use lib.ListN.{length, replicate}
 use Rattle.sets.specs.Sets.{has, full, meet, empty, every}
-use Rattle.sets.specs.Laws.{and-intro, has-meet, empty-members, every-at}
+use Rattle.sets.specs.Truth.{and-intro}
+use Rattle.sets.specs.Laws.{has-meet, empty-members, every-at}
 use Rattle.rules.specs.declared.Graph.{Graph}
 use Rattle.rules.specs.declared.Marking.{Marking}
 use Rattle.rules.specs.declared.Verdict.{Verdict}

@@ -16,7 +16,7 @@ use Rattle.rules.specs.Graph.{countsFit, setsFit, kindsApart}
 use Rattle.rules.specs.Move.{markingFits}
 use Rattle.rules.specs.Laws.{holds, ascends, first-holds, first-lowest}
 use Rattle.sheet.specs.Sheet.{graphOf, layoutFits, countsRight, bodiesMatch, setsInside, arrowsRight, readLines, readVerdict, sheetBytes, writeLines, writeVerdict}
-use Rattle.rounds.specs.Truth.{or-false}
+use Rattle.sets.specs.Truth.{or-false}
 
 -- ---- any table whose numbers go up
 

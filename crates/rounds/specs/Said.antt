@@ -11,7 +11,8 @@ use lib.ListN.{length}
 use lib.Dec.{eqb}
 use borrow.Author.Tests.{eq-eqb, eqb-true}
 use Rattle.sets.specs.Sets.{has, meet, empty}
-use Rattle.sets.specs.Laws.{and-left, and-intro, has-meet, empty-members, members-empty, every-at, every-of}
+use Rattle.sets.specs.Truth.{and-left, and-intro, or-cases, or-second, and-neither}
+use Rattle.sets.specs.Laws.{has-meet, empty-members, members-empty, every-at, every-of}
 use Rattle.rules.specs.declared.Graph.{Graph}
 use Rattle.rules.specs.Graph.{row, kindsApart}
 use Rattle.rules.specs.Paper.{condition, response, includes, excludes}
@@ -23,7 +24,6 @@ use Rattle.arrows.specs.Table.{row-other, column-other, known-in, held-filled}
 use Rattle.bodies.specs.Tables.{row-tabled}
 use Rattle.bodies.specs.Bodies.{quarter}
 use Rattle.sheet.specs.Sheet.{countsOf, arrowsOn, graphOf, arrowsRight}
-use Rattle.rounds.specs.Truth.{or-cases, or-second, not-both}
 use Rattle.rounds.specs.Arrows.{kept-names, quarter-kept}
 use Rattle.rounds.specs.Ascent.{arrowNo, Known, AllKnown, arrows-exactly}
 
@@ -154,5 +154,5 @@ module _ (s : List ℕ) (h : countsOf s .steps ≤ 64) (fit : arrowsRight s ≡ 
       back none =
           every-of (graphOf s .steps) (λ j. empty (meet (row (graphOf s .includes) j) (row (graphOf s .excludes) j)))
           (λ a l. members-empty (meet (row (graphOf s .includes) a) (row (graphOf s .excludes) a))
-          (λ b. has-meet (row (graphOf s .includes) a) (row (graphOf s .excludes) a) b ∙ not-both (has (row (graphOf s .includes) a) b) (has (row (graphOf s .excludes) a) b)
+          (λ b. has-meet (row (graphOf s .includes) a) (row (graphOf s .excludes) a) b ∙ and-neither (has (row (graphOf s .includes) a) b) (has (row (graphOf s .excludes) a) b)
           (λ p q. none a b (related-exactly 2 a b (omega arith) .0 p) (related-exactly 3 a b (omega arith) .0 q))))

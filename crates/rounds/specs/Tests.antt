@@ -11,7 +11,8 @@ use lib.ListN.{length}
 use lib.Dec.{ltb}
 use borrow.Author.Tests.{lt-ltb, le-ltb, ltb-true, le-leb, eq-eqb}
 use Rattle.sets.specs.Sets.{has, within}
-use Rattle.sets.specs.Laws.{and-intro, has-zero, has-above, lt-of-members, every-at, every-of}
+use Rattle.sets.specs.Truth.{and-intro, is-false}
+use Rattle.sets.specs.Laws.{has-zero, has-above, lt-of-members, every-at, every-of}
 use Rattle.rules.specs.declared.Marking.{Marking}
 use Rattle.rules.specs.Graph.{row, keeps, countsFit}
 use Rattle.rules.specs.Move.{markingFits}
@@ -21,7 +22,6 @@ use Rattle.layout.specs.Layout.{sizeAt}
 use Rattle.bodies.specs.Bodies.{setAt, roleSetsFit}
 use Rattle.sheet.specs.Sheet.{layoutFits}
 use Rattle.sheet.specs.Judge.{Placed, layout-placed}
-use Rattle.rounds.specs.Truth.{is-false}
 
 -- ---- 1 and 2
 

@@ -5,7 +5,7 @@ use mathlib.Core.Bool.{Bool, true, _&&_, cond}
 use native.Mathlib.Omega.{arith}
 use lib.Dec.{ltb, leb}
 use borrow.Author.Tests.{ltb-true, le-leb, not-false}
-use Rattle.sets.specs.Laws.{and-left, and-right}
+use Rattle.sets.specs.Truth.{and-left, and-right}
 use Rattle.rules.specs.declared.Graph.{Graph}
 use Rattle.rules.specs.declared.Marking.{Marking}
 use Rattle.rules.specs.declared.Entry.{Entry}

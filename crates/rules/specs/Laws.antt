@@ -11,7 +11,8 @@ use lib.ListN.{length}
 use lib.Dec.{eqb, ltb, leb}
 use borrow.Author.Tests.{ltb-true, leb-true, lt-ltb, le-ltb, lt-leb, eq-eqb, ne-eqb, eqb-true, not-true, not-false}
 use Rattle.sets.specs.Sets.{has, single, union, meet, minus, empty, within, full, gather, every, lowest, subset}
-use Rattle.sets.specs.Laws.{empty-gather, empty-union, within-gather, within-union, within-full, every-and, every-same, every-at, every-of, and-exchange, and-left, and-right, and-intro, same-truth}
+use Rattle.sets.specs.Truth.{and-exchange, and-left, and-right, and-intro, same-truth, or-first, or-second, or-split}
+use Rattle.sets.specs.Laws.{empty-gather, empty-union, within-gather, within-union, within-full, every-and, every-same, every-at, every-of}
 use Rattle.rules.specs.declared.Graph.{Graph}
 use Rattle.rules.specs.declared.Marking.{Marking}
 use Rattle.rules.specs.declared.Entry.{Entry}
@@ -116,17 +117,6 @@ first-above k (l ∷ a) r h e = go (l .1) refl (first-above (numberOf (l .0)) a 
     go true p rest = let same : l .0 ≡ r = cc in subst (λ (q : Refusal). k < numberOf q) same here
     go false p rest = lt-trans here (rest (ap (λ (h : Bool). cond h (Verdict.Refused (l .0)) (first a)) (sym p) ∙ e))
 
-or-right : (a b : Bool) → b ≡ true → (a || b) ≡ true
-or-right true b e = refl
-or-right false b e = e
-
-or-left : {a : Bool} (b : Bool) → a ≡ true → (a || b) ≡ true
-or-left b e = ap (λ (x : Bool). x || b) e
-
-or-split : (a b : Bool) (G : Type 0) → (a || b) ≡ true → (a ≡ true → G) → (b ≡ true → G) → G
-or-split true b G e f g = f refl
-or-split false b G e f g = g e
-
 -- the number given holds
 pub first-holds : (a : List Line) (r : Refusal) → first a ≡ Verdict.Refused r → holds (numberOf r) a ≡ true
 unfolding first holds
@@ -136,8 +126,8 @@ first-holds (l ∷ a) r e = go (l .1) refl (first-holds a r)
     go : (b : Bool) → l .1 ≡ b → (first a ≡ Verdict.Refused r → holds (numberOf r) a ≡ true) → ((eqb (numberOf (l .0)) (numberOf r) && l .1) || holds (numberOf r) a) ≡ true
     go true p rest =
         let same : l .0 ≡ r = cc in
-        or-left (holds (numberOf r) a) (and-intro (eq-eqb (numberOf (l .0)) (numberOf r) (ap numberOf same)) p)
-    go false p rest = or-right (eqb (numberOf (l .0)) (numberOf r) && l .1) (holds (numberOf r) a) (rest (ap (λ (h : Bool). cond h (Verdict.Refused (l .0)) (first a)) (sym p) ∙ e))
+        or-first (holds (numberOf r) a) (and-intro (eq-eqb (numberOf (l .0)) (numberOf r) (ap numberOf same)) p)
+    go false p rest = or-second (eqb (numberOf (l .0)) (numberOf r) && l .1) (rest (ap (λ (h : Bool). cond h (Verdict.Refused (l .0)) (first a)) (sym p) ∙ e))
 
 above : (k : ℕ) (a : List Line) (j : ℕ) → ascends k a ≡ true → holds j a ≡ true → k < j
 unfolding ascends holds

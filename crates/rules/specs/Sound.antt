@@ -12,7 +12,8 @@ use lib.Dec.{ltb, leb}
 use lib.Pow.{pow-pos, pow-mono}
 use borrow.Author.Tests.{ltb-true, lt-ltb, le-ltb, not-false}
 use Rattle.sets.specs.Sets.{has, single, union, meet, minus, empty, within, every}
-use Rattle.sets.specs.Laws.{and-left, and-right, and-intro, every-at, empty-members, has-meet, has-zero, union-lt, minus-lt, single-lt}
+use Rattle.sets.specs.Truth.{and-left, and-right, and-intro}
+use Rattle.sets.specs.Laws.{every-at, empty-members, has-meet, has-zero, union-lt, minus-lt, single-lt}
 use Rattle.rules.specs.declared.Graph.{Graph}
 use Rattle.rules.specs.declared.inner.Row.{Row}
 use Rattle.rules.specs.declared.Marking.{Marking}

@@ -10,7 +10,8 @@ use lib.Dec.{eqb}
 use lib.ListN.{length}
 use borrow.Author.Tests.{eqb-true, eq-eqb}
 use Rattle.sets.specs.Sets.{has}
-use Rattle.sets.specs.Laws.{bit, bit-lt, bit-union, bit-meet, bit-xor, ext, and-left, and-right}
+use Rattle.sets.specs.Truth.{and-left, and-right}
+use Rattle.sets.specs.Laws.{bit, bit-lt, bit-union, bit-meet, bit-xor, ext}
 
 pub bit-zero : (i : ℕ) → bit 0 i ≡ 0
 bit-zero i = ap (λ (x : ℕ). x % 2) (zero-div (2 ^ i))

@@ -14,44 +14,7 @@ use lib.Count.{trailingZeros, under}
 use lib.Pow.{pow-pos, pow-mono, pow-lt, shr-shr, ones-lt, le-ones, lt-of-le-ones, shl-exact}
 use borrow.Author.Tests.{lt-ltb, le-ltb, eq-eqb, ne-eqb, eqb-true, eqb-false, ltb-true, le-leb, leb-true}
 use Rattle.sets.specs.Sets.{has, single, union, meet, minus, empty, subset, within, full, scan, lowest, gather, every}
-
--- ---- truth values
-
--- two tests that hold together are the same
-pub same-truth : (p q : Bool) → (p ≡ true → q ≡ true) → (q ≡ true → p ≡ true) → p ≡ q
-same-truth true true f g = refl
-same-truth true false f g = sym (f refl)
-same-truth false true f g = g refl
-same-truth false false f g = refl
-
-pub and-intro : {p q : Bool} → p ≡ true → q ≡ true → (p && q) ≡ true
-and-intro {p} {q} e f = ap₂ (λ (x y : Bool). x && y) e f
-
-pub and-left : (p q : Bool) → (p && q) ≡ true → p ≡ true
-and-left true q e = refl
-and-left false q e = e
-
-pub and-right : (p q : Bool) → (p && q) ≡ true → q ≡ true
-and-right true q e = e
-and-right false q e = absurd (false≢true e)
-
-pub and-exchange : (a b c d : Bool) → ((a && b) && (c && d)) ≡ ((a && c) && (b && d))
-and-exchange true true c d = refl
-and-exchange true false true d = refl
-and-exchange true false false d = refl
-and-exchange false b c d = refl
-
-pub or-false : (a : Bool) → (a || false) ≡ a
-or-false true = refl
-or-false false = refl
-
-pub and-false : (a : Bool) → (a && false) ≡ false
-and-false true = refl
-and-false false = refl
-
-pub and-true : (a : Bool) → (a && true) ≡ a
-and-true true = refl
-and-true false = refl
+use Rattle.sets.specs.Truth.{same-truth, and-intro, and-left, and-right, and-exchange, or-false, and-false, and-true, is-false}
 
 -- ---- digits
 
@@ -297,10 +260,6 @@ members-subset a b all = members-empty (minus a b) (λ s. has-minus a b s ∙ no
 
 not-both : (p : Bool) → p ≡ true → p ≡ false → ⊥
 not-both p e f = true≢false (sym e ∙ f)
-
-is-false : (p : Bool) → (p ≡ true → ⊥) → p ≡ false
-is-false true h = absurd (h refl)
-is-false false h = refl
 
 -- within n is within the steps below n
 pub subset-full : (n x : ℕ) → subset x (full n) ≡ within n x

@@ -1,4 +1,5 @@
 pub mod Sets
+pub mod Truth
 pub mod Laws
 pub mod Digits
 pub mod Later

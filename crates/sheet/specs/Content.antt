@@ -8,7 +8,7 @@ use lib.ListN.{length, drop, length-append}
 use lib.Seq.{sets, sets-eq}
 use lib.Dec.{ltb}
 use borrow.Author.Tests.{not-false, lt-ltb, le-ltb}
-use Rattle.sets.specs.Laws.{and-left, and-right}
+use Rattle.sets.specs.Truth.{and-left, and-right}
 use Rattle.rules.specs.declared.Graph.{Graph}
 use Rattle.rules.specs.declared.Marking.{Marking}
 use Rattle.rules.specs.declared.Verdict.{Verdict}

@@ -8,7 +8,8 @@ use lib.ListN.{length, getD, replicate}
 use lib.Dec.{eqb, leb}
 use borrow.Author.Tests.{leb-true, eqb-true, not-false}
 use Rattle.sets.specs.Sets.{meet, empty, every, gather}
-use Rattle.sets.specs.Laws.{and-left, and-right, empty-gather}
+use Rattle.sets.specs.Truth.{and-left, and-right}
+use Rattle.sets.specs.Laws.{empty-gather}
 use Rattle.rules.specs.declared.Verdict.{Verdict}
 use Rattle.rules.specs.declared.Refusal.{Refusal}
 use Rattle.rules.specs.declared.Refusal.the-variants.{Layout, Counts, Bodies, Beyond, Arrows, Both}

@@ -19,6 +19,7 @@ use Rattle.arrows.specs.Rows.{kindArrows, countOf}
 use Rattle.arrows.specs.Loops.{count-most, length-kind}
 use Rattle.bodies.specs.Bodies.{countsBody, markingBody, rolesBody}
 use Rattle.sheet.specs.Sheet.{contentLines}
+use Rattle.sets.specs.Truth.{and-false, and-true}
 
 -- ---- the parts
 
@@ -64,14 +65,6 @@ five-small a b c d e p q r s t (suc (suc (suc (suc (suc i))))) = lit< tt
 pub content-counts : (g : Graph) (m : Marking) → countsFit (g .steps) (g .people) (g .roles) ≡ false → first (contentLines g m) ≡ Verdict.Refused Counts
 unfolding first
 content-counts g m a = simp a
-
-and-false : (b : Bool) → (b && false) ≡ false
-and-false true = refl
-and-false false = refl
-
-and-true : (b : Bool) → (b && true) ≡ b
-and-true true = refl
-and-true false = refl
 
 pub content-beyond : (g : Graph) (m : Marking) → countsFit (g .steps) (g .people) (g .roles) ≡ true → markingFits (g .steps) m ≡ false
     → first (contentLines g m) ≡ Verdict.Refused Beyond

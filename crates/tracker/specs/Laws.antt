@@ -9,7 +9,8 @@ use native.Mathlib.Decide.{decLt}
 use lib.Dec.{leb, ltb}
 use borrow.Author.Tests.{lt-ltb, le-ltb, ne-eqb, lt-leb, le-leb, leb-true, not-false}
 use Rattle.sets.specs.Sets.{has, empty, full, lowest}
-use Rattle.sets.specs.Laws.{and-left, and-right, and-intro, has-minus, has-full, empty-members, members-empty}
+use Rattle.sets.specs.Truth.{and-left, and-right, and-intro}
+use Rattle.sets.specs.Laws.{has-minus, has-full, empty-members, members-empty}
 use Rattle.rules.specs.declared.Graph.{Graph}
 use Rattle.rules.specs.declared.Marking.{Marking}
 use Rattle.rules.specs.declared.Rank.{Rank}

@@ -8,7 +8,8 @@ use native.Mathlib.Omega.{arith}
 use lib.Dec.{leb, ltb}
 use borrow.Author.Tests.{eqb-false, ltb-true, not-false, not-true}
 use Rattle.sets.specs.Sets.{empty, full, lowest}
-use Rattle.sets.specs.Laws.{and-left, and-right, meet-lt, minus-lt, lowest-wider, lowest-below}
+use Rattle.sets.specs.Truth.{and-left, and-right}
+use Rattle.sets.specs.Laws.{meet-lt, minus-lt, lowest-wider, lowest-below}
 use Rattle.rules.specs.declared.Graph.{Graph}
 use Rattle.rules.specs.declared.Marking.{Marking}
 use Rattle.rules.specs.declared.Entry.{Entry}

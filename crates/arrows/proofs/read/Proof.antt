@@ -6,7 +6,7 @@ use native.Mathlib.Omega.{arith}
 use lib.ListN.{length}
 use borrow.Author.Needs.{needs}
 use borrow.Author.Tests.{not-true, not-false}
-use Rattle.sets.specs.Laws.{and-left}
+use Rattle.sets.specs.Truth.{and-left}
 use Rattle.arrows.specs.Arrows.{known}
 use Rattle.arrows.specs.Loops.{Reading, passes, arrowIn, goes-start, goes-then, goes-more, reading-refused, reading-done}
 use Rattle.arrows.proofs.read.Statement.{statement}

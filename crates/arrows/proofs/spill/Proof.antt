@@ -5,11 +5,11 @@ use native.Mathlib.Omega.{arith}
 use lib.ListN.{length}
 use borrow.Author.Needs.{needs}
 use Rattle.sets.specs.Sets.{lowest}
-use Rattle.sets.specs.Laws.{meet-lt}
+use Rattle.sets.specs.Laws.{meet-lt, lowest-below}
 use Rattle.sets.specs.Later.{later}
 use Rattle.arrows.specs.Arrows.{putAll}
 use Rattle.arrows.specs.Rows.{members, rowArrows}
-use Rattle.arrows.specs.Loops.{lowest-below, members-less, spill-more, spill-done}
+use Rattle.arrows.specs.Loops.{members-less, spill-more, spill-done}
 use Rattle.arrows.proofs.spill.Statement.{statement}
 use Rattle.arrows.proofs.spill.Tie as tie
 
@@ -34,28 +34,28 @@ cast-i c = search needs
 mul-table : tie.Need-mul-table Inv-loop μ-loop
 mul-table c =
     let l = c .before .before .loop in
-    let low : lowest 64 (l .rest) < 64 = lowest-below (l .rest) (l .inv .0) (c .before .loop-test .taken) in
+    let low : lowest 64 (l .rest) < 64 = lowest-below 64 (l .rest) (l .inv .0) (c .before .loop-test .taken) in
     let e : c .lowest .result ≡ lowest 64 (l .rest) = c .lowest .ensures in
     omega arith
 
 element-copy-out-table : tie.Need-element-copy-out-table Inv-loop μ-loop
 element-copy-out-table c =
     let l = c .before .before .loop in
-    let low : lowest 64 (l .rest) < 64 = lowest-below (l .rest) (l .inv .0) (c .before .loop-test .taken) in
+    let low : lowest 64 (l .rest) < 64 = lowest-below 64 (l .rest) (l .inv .0) (c .before .loop-test .taken) in
     let e : c .lowest .result ≡ lowest 64 (l .rest) = c .lowest .ensures in
     omega arith
 
 mul-table-2 : tie.Need-mul-table-2 Inv-loop μ-loop
 mul-table-2 c =
     let l = c .before .before .before .loop in
-    let low : lowest 64 (l .rest) < 64 = lowest-below (l .rest) (l .inv .0) (c .before .before .loop-test .taken) in
+    let low : lowest 64 (l .rest) < 64 = lowest-below 64 (l .rest) (l .inv .0) (c .before .before .loop-test .taken) in
     let e : c .before .lowest .result ≡ lowest 64 (l .rest) = c .before .lowest .ensures in
     omega arith
 
 element-write-table : tie.Need-element-write-table Inv-loop μ-loop
 element-write-table c =
     let l = c .before .before .before .loop in
-    let low : lowest 64 (l .rest) < 64 = lowest-below (l .rest) (l .inv .0) (c .before .before .loop-test .taken) in
+    let low : lowest 64 (l .rest) < 64 = lowest-below 64 (l .rest) (l .inv .0) (c .before .before .loop-test .taken) in
     let e : c .before .lowest .result ≡ lowest 64 (l .rest) = c .before .lowest .ensures in
     omega arith
 

@@ -6,7 +6,7 @@ use lib.ListN.{length}
 use lib.Dec.{eqb}
 use borrow.Author.Needs.{needs}
 use borrow.Author.Tests.{not-true, not-false, eq-eqb, ne-eqb}
-use Rattle.sets.specs.Laws.{and-left, and-right}
+use Rattle.sets.specs.Truth.{and-left, and-right}
 use Rattle.rules.specs.declared.Graph.{Graph}
 use Rattle.rules.specs.declared.Verdict.{Verdict}
 use Rattle.rules.specs.Graph.{lentGraph, graphVerdict}
