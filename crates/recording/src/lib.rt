@@ -1,0 +1,3 @@
+// Records: folded, joined, applied, restored from, and shown.
+pub mod applying;
+pub mod folds;

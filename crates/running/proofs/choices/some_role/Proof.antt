@@ -1,0 +1,34 @@
+-- `choices::some_role` ends: the roles left fall. Assumes nothing.
+use Prim.Native.Nat.{_≤_, _-_}
+use borrow.Author.Needs.{needs}
+use Rattle.running.proofs.choices.some_role.Statement.{statement}
+use Rattle.running.proofs.choices.some_role.Tie as tie
+
+abbrev Inv-loop : tie.InvT-loop
+Inv-loop g m s p found₀ r₀ found r = r ≤ 16
+
+abbrev μ-loop : tie.MeasureT-loop
+μ-loop g m s p found₀ r₀ found r = 16 - r
+
+loop-holds : tie.Need-loop-holds Inv-loop μ-loop
+loop-holds c = search needs
+
+may-take-requires : tie.Need-may-take-requires Inv-loop μ-loop
+may-take-requires c κs = search needs
+
+add-r : tie.Need-add-r Inv-loop μ-loop
+add-r c = search needs
+
+loop-less : tie.Need-loop-less Inv-loop μ-loop
+loop-less c = search needs
+
+loop-again : tie.Need-loop-again Inv-loop μ-loop
+loop-again c = search needs
+
+returns : tie.Need-returns Inv-loop μ-loop
+returns c = search needs
+
+pub some-role-spec : {M : Type 1} → statement M
+some-role-spec =
+    tie.close
+    (tie.spec Inv-loop μ-loop loop-holds may-take-requires add-r loop-less loop-again returns)

@@ -1,0 +1,6 @@
+// Journals run from a sheet's first marking: how they end, who may go on, laps without end, and the tracker.
+pub mod choices;
+pub mod laps_told;
+pub mod markings;
+pub mod runs;
+pub mod tracks;

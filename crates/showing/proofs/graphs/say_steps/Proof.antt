@@ -1,0 +1,54 @@
+-- `graphs::say_steps` ends: the steps left fall. Assumes nothing.
+use Prim.Native.Nat.{_≤_, _-_}
+use borrow.Author.Needs.{needs}
+use Rattle.showing.proofs.graphs.say_steps.Statement.{statement}
+use Rattle.showing.proofs.graphs.say_steps.Tie as tie
+
+abbrev Inv-loop : tie.InvT-loop
+Inv-loop m g s₀ s = s ≤ 64
+
+abbrev μ-loop : tie.MeasureT-loop
+μ-loop m g s₀ s = 64 - s
+
+loop-holds : tie.Need-loop-holds Inv-loop μ-loop
+loop-holds c = search needs
+
+cast-i : tie.Need-cast-i Inv-loop μ-loop
+cast-i c = search needs
+
+mul-say-step : tie.Need-mul-say-step Inv-loop μ-loop
+mul-say-step c = search needs
+
+element-copy-out-say-step : tie.Need-element-copy-out-say-step Inv-loop μ-loop
+element-copy-out-say-step c = search needs
+
+say-step-requires : tie.Need-say-step-requires Inv-loop μ-loop
+say-step-requires c κs = search needs
+
+add-s : tie.Need-add-s Inv-loop μ-loop
+add-s c = search needs
+
+loop-less : tie.Need-loop-less Inv-loop μ-loop
+loop-less c = search needs
+
+loop-again : tie.Need-loop-again Inv-loop μ-loop
+loop-again c = search needs
+
+returns : tie.Need-returns Inv-loop μ-loop
+returns c = search needs
+
+pub say-steps-spec : {M : Type 1} → statement M
+say-steps-spec =
+    tie.close
+    (tie.spec
+    Inv-loop
+    μ-loop
+    loop-holds
+    cast-i
+    mul-say-step
+    element-copy-out-say-step
+    say-step-requires
+    add-s
+    loop-less
+    loop-again
+    returns)

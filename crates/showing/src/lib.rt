@@ -1,0 +1,3 @@
+// What a sheet holds, printed and written.
+pub mod graphs;
+pub mod sheets;
