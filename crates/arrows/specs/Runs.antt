@@ -1,5 +1,5 @@
 -- Runs of arrows of one kind that come from one step: the law for one arrow more of each. Assumes nothing.
-use Prim.Native.Nat.{ℕ, _+_, _*_, _^_, _≤_, _<_}
+use Prim.Native.Nat.{ℕ, _+_, _*_, _≤_, _<_}
 use mathlib.Core.Path.{_≡_, refl, sym, ap, ap₂, _∙_, subst}
 use mathlib.Core.List.{List}
 use mathlib.Core.Bool.{Bool, true, false, _&&_, _||_}
@@ -15,9 +15,8 @@ use Rattle.sets.specs.Laws.{ext, has-union}
 use Rattle.rules.specs.Graph.{row}
 use Rattle.numbers.specs.Numbers.{number, Bytes}
 use Rattle.numbers.specs.Laws.{number-two}
-use Rattle.arrows.specs.Arrows.{Arrow, known, place, put, rowAt, columnAt}
+use Rattle.arrows.specs.Arrows.{Arrow, known, place, put}
 use Rattle.arrows.specs.Table.{row-condition, row-other, column-condition, column-other}
-use Rattle.arrows.specs.Rows.{toward}
 use Rattle.arrows.specs.Loops.{passes, arrowIn, Goes, goes-start, goes-then, goes-more}
 
 -- the arrow at i begins with the bytes of the head, and points at a step below n that is not below `least`
