@@ -1,8 +1,8 @@
 -- The arrows of a sheet: three bytes each, kind, from, to, strictly ascending as triples; and the table that they fill.
 use Prim.Native.Nat.{ℕ, zero, suc, _+_, _*_, _/_, _%_}
-use mathlib.Core.List.{List, [], _∷_, _++_, map}
+use mathlib.Core.List.{List, [], _∷_, map}
 use mathlib.Core.Bool.{Bool, true, false, _&&_, _||_, cond}
-use lib.ListN.{getD, set, replicate}
+use lib.ListN.{set, replicate}
 use lib.Dec.{eqb, ltb, leb}
 use Rattle.sets.specs.Sets.{has, single, union}
 use Rattle.rules.specs.Graph.{row}

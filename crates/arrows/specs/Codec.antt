@@ -1,20 +1,18 @@
 -- Arrows and tables undo each other: the arrows of a table, put into an empty one, give its rows; and arrows that fit are the arrows of
 -- the table that they fill. Both go by the one law of lists, `listed-members`. Assumes nothing.
-use Prim.Native.Nat.{ℕ, zero, suc, _+_, _*_, _/_, _%_, _^_, _≤_, _<_}
+use Prim.Native.Nat.{ℕ, zero, suc, _+_, _^_, _≤_, _<_}
 use mathlib.Core.Path.{_≡_, refl, sym, ap, ap₂, _∙_, subst}
-use mathlib.Core.List.{List, [], _∷_, _++_, map}
-use mathlib.Core.Bool.{Bool, true, false, not, _&&_, _||_, cond, true≢false, false≢true}
+use mathlib.Core.List.{List, [], _∷_, map}
+use mathlib.Core.Bool.{Bool, true, false, _&&_}
 use native.Mathlib.Omega.{arith}
-use native.Mathlib.Decide.{decLt, decLe}
-use lib.ListN.{length}
-use lib.Dec.{eqb, ltb, leb, lit≤}
-use borrow.Author.Tests.{lt-ltb, le-ltb, le-leb, lt-leb, leb-true, ltb-true, eq-eqb, ne-eqb, eqb-true}
+use lib.Dec.{leb}
+use borrow.Author.Tests.{lt-ltb, le-leb, leb-true}
 use Rattle.sets.specs.Truth.{and-left, and-right, and-intro}
 use Rattle.rules.specs.Graph.{row}
 use Rattle.arrows.specs.Arrows.{Arrow, known, allKnown, ascending, arrowsFit, tableOf, held, place, arrowAt, listed, keptIf, arrowsOf}
 use Rattle.arrows.specs.Lists.{member, upFrom, allBelow, listed-same, listed-members, member-listed}
 use Rattle.arrows.specs.Places.{Ranged, known-ranged, place-arrowAt, arrowAt-place, place-lt, arrowAt-ranged, fitFrom, fit-places}
-use Rattle.arrows.specs.Table.{Rows64, known-in, held-filled, rows-filled, rows-same}
+use Rattle.arrows.specs.Table.{known-in, held-filled, rows-filled, rows-same}
 
 map-place-arrowAt : (l : List ℕ) → map place (map arrowAt l) ≡ l
 map-place-arrowAt [] = refl

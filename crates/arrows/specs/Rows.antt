@@ -2,25 +2,23 @@
 -- Conditions stand with the step that waits, so their table is turned first. Assumes nothing.
 use Prim.Native.Nat.{ℕ, zero, suc, _+_, _-_, _*_, _/_, _%_, _^_, _≤_, _<_}
 use mathlib.Core.Path.{_≡_, refl, sym, ap, ap₂, _∙_, subst}
-use mathlib.Core.List.{List, [], _∷_, _++_, map, append-nil, append-assoc}
-use mathlib.Core.Bool.{Bool, true, false, not, _&&_, _||_, cond, true≢false, false≢true}
-use native.Mathlib.Nat.{zero-mul, suc-mul, add-zero, not-suc-le-zero, two-pow-succ, le-of-eq}
+use mathlib.Core.List.{List, [], _∷_, _++_, map, append-nil}
+use mathlib.Core.Bool.{Bool, true, false, not, _&&_, true≢false}
+use native.Mathlib.Nat.{zero-mul, suc-mul, not-suc-le-zero, two-pow-succ, le-of-eq}
 use native.Mathlib.Omega.{arith}
-use native.Mathlib.Decide.{decLt, decLe, ℕ-discrete}
-use lib.ListN.{length, replicate, length-append, length-map, length-replicate, List·getD-eq-default}
-use lib.Seq.{sets}
-use lib.Dec.{eqb, ltb, leb, lit<}
+use native.Mathlib.Decide.{decLt}
+use lib.ListN.{length, replicate, length-append, length-map, List·getD-eq-default}
+use lib.Dec.{eqb, lit<}
 use lib.Count.{ones, ones-step}
-use lib.Pow.{pow-mono}
-use borrow.Author.Tests.{lt-ltb, le-ltb, eq-eqb, ne-eqb, eqb-true}
+use borrow.Author.Tests.{eq-eqb, ne-eqb}
 use Rattle.sets.specs.Sets.{has, single, minus, lowest}
 use Rattle.sets.specs.Laws.{Least, lowest-least, lowest-has, has-minus, has-single, has-zero, has-above, ext, has-half, has-low}
 use Rattle.sets.specs.Truth.{and-false, and-true}
 use Rattle.rules.specs.Graph.{row}
-use Rattle.arrows.specs.Arrows.{Arrow, spelt, rowAt, columnAt, put, putAll, held, place, arrowAt, listed, keptIf, arrowsOf, pick, fourTables}
+use Rattle.arrows.specs.Arrows.{Arrow, putAll, held, place, arrowAt, listed, keptIf, arrowsOf, pick, fourTables}
 use Rattle.arrows.specs.Lists.{member, listed-same, listed-add, listed-none, listed-first, member-listed}
-use Rattle.arrows.specs.Places.{Ranged, length-spelt, spelt-append, place-arrowAt}
-use Rattle.arrows.specs.Table.{AllIn, held-filled, rows-filled, length-filled, row-condition, row-other, column-condition, column-other}
+use Rattle.arrows.specs.Places.{place-arrowAt}
+use Rattle.arrows.specs.Table.{AllIn, held-filled, rows-filled, length-filled, row-other, column-other}
 
 -- ---- the steps of a set, in order
 

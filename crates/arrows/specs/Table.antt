@@ -1,21 +1,20 @@
 -- The table: what it holds after arrows were put into it, and that its arrows decide it. Assumes nothing.
-use Prim.Native.Nat.{ℕ, zero, suc, _+_, _*_, _/_, _%_, _^_, _≤_, _<_}
+use Prim.Native.Nat.{ℕ, _+_, _*_, _/_, _%_, _^_, _≤_, _<_}
 use mathlib.Core.Path.{_≡_, refl, sym, ap, ap₂, _∙_, subst}
-use mathlib.Core.List.{List, [], _∷_, _++_, map}
-use mathlib.Core.Bool.{Bool, true, false, not, _&&_, _||_, cond, true≢false, false≢true}
-use native.Mathlib.Nat.{not-suc-le-zero}
+use mathlib.Core.List.{List, [], _∷_, map}
+use mathlib.Core.Bool.{Bool, true, false, _||_, cond}
 use native.Mathlib.Omega.{arith}
-use native.Mathlib.Decide.{decLt, decLe, ℕ-discrete}
-use lib.ListN.{length, getD, set, replicate, length-set, length-replicate, getD-replicate, List·getD-eq-default}
+use native.Mathlib.Decide.{decLt, ℕ-discrete}
+use lib.ListN.{length, set, replicate, length-set, length-replicate, getD-replicate, List·getD-eq-default}
 use lib.Seq.{getD-set-same, getD-set-other}
-use lib.Dec.{eqb, ltb, leb, lit<}
+use lib.Dec.{eqb, ltb, lit<}
 use lib.Pow.{pow-pos}
-use borrow.Author.Tests.{lt-ltb, le-ltb, eq-eqb, ne-eqb, eqb-true}
+use borrow.Author.Tests.{lt-ltb, le-ltb, eq-eqb, ne-eqb}
 use Rattle.sets.specs.Sets.{has, single, union}
 use Rattle.sets.specs.Truth.{and-left, and-right, or-false}
 use Rattle.sets.specs.Laws.{has-union, has-single, has-zero, has-above, ext, union-lt, single-lt}
 use Rattle.rules.specs.Graph.{row}
-use Rattle.arrows.specs.Arrows.{Arrow, rowAt, columnAt, put, putAll, tableOf, held, place, arrowAt, known, allKnown}
+use Rattle.arrows.specs.Arrows.{Arrow, rowAt, columnAt, put, putAll, held, place, arrowAt, known, allKnown}
 use Rattle.arrows.specs.Lists.{member}
 use Rattle.arrows.specs.Places.{Ranged, known-ranged, arrowAt-place}
 

@@ -1,6 +1,6 @@
 -- The bodies of a sheet, written and read.
 use Prim.Native.Nat.{ℕ, zero, suc, _+_, _*_, _/_}
-use mathlib.Core.List.{List, [], _∷_, _++_}
+use mathlib.Core.List.{List, [], _++_}
 use mathlib.Core.Bool.{Bool}
 use lib.ListN.{length, getD, drop}
 use Rattle.sets.specs.Sets.{within, every}

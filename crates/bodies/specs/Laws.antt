@@ -1,18 +1,16 @@
 -- The laws of the bodies' readers and writers, and what their loops carry. Assumes nothing.
-use Prim.Native.Nat.{ℕ, zero, suc, _+_, _-_, _*_, _/_, _%_, _≤_, _<_}
-use mathlib.Core.Path.{_≡_, refl, sym, ap, ap₂, _∙_, subst}
-use mathlib.Core.List.{List, [], _∷_, _++_}
-use mathlib.Core.Bool.{Bool}
+use Prim.Native.Nat.{ℕ, zero, suc, _+_, _-_, _*_, _/_, _≤_}
+use mathlib.Core.Path.{_≡_, refl, sym, ap, _∙_, subst}
+use mathlib.Core.List.{List}
 use native.Mathlib.Numerals.{add-one}
 use native.Mathlib.Omega.{arith}
-use lib.ListN.{length, drop, length-append, drop-of-length-le}
-use lib.Dec.{leb}
-use Rattle.sets.specs.Sets.{within, gather, every, full}
+use lib.ListN.{length, length-append, drop-of-length-le}
+use Rattle.sets.specs.Sets.{within, gather}
 use Rattle.sets.specs.Laws.{within-gather}
 use Rattle.rules.specs.declared.Marking.{Marking}
 use Rattle.rules.specs.Graph.{row}
 use Rattle.numbers.specs.Numbers.{number, bytes, Spliced}
-use Rattle.numbers.specs.Laws.{length-bytes, number-two, spliced-then}
+use Rattle.numbers.specs.Laws.{length-bytes, spliced-then}
 use Rattle.bodies.specs.Bodies.{countsBody, markingBody, rolesBody, setAt, roleSetsFit}
 
 -- past the end there is no role

@@ -6,7 +6,7 @@ use native.Mathlib.Nat.{not-suc-le-zero}
 use native.Mathlib.Numerals.{add-one}
 use native.Mathlib.Omega.{arith}
 use native.Mathlib.Decide.{decLt}
-use lib.ListN.{length, getD, set, drop, replicate, length-append, length-replicate, List·getD-append, List·getD-eq-default, drop-of-length-le}
+use lib.ListN.{length, set, length-append, List·getD-append, List·getD-eq-default, drop-of-length-le}
 use lib.Seq.{sets, sets-eq, getD-at, ext-getD}
 use Rattle.rules.specs.Graph.{row}
 use Rattle.numbers.specs.Laws.{sets-append}

@@ -5,7 +5,6 @@ use mathlib.Core.List.{List}
 use Rattle.rules.specs.declared.Graph.{Graph}
 use Rattle.rules.specs.declared.Marking.{Marking}
 use Rattle.laps.specs.declared.Lapped.{Lapped}
-use Rattle.laps.specs.declared.Pass.{Pass}
 use Rattle.laps.specs.Laps.{LapAnswer, numberOfPass}
 use Rattle.words.specs.Words.{refusalWord}
 

@@ -20,7 +20,7 @@ use Rattle.records.specs.declared.Recorded.{Recorded}
 use Rattle.records.specs.Records.{applies, gives, wellFormed}
 use Rattle.folding.specs.Fold.{foldOf}
 use Rattle.records.specs.Answers.{recordedOf}
-use Rattle.folding.specs.Answers.{theFold, restoreLines, theRestoring}
+use Rattle.folding.specs.Answers.{theFold, theRestoring}
 
 -- ---- fold
 

@@ -1,6 +1,6 @@
 -- The laws of folding, over lists of entries: a fold is well-formed and does what the entries do one by one; the fold of one list
 -- after another is the join of their folds; and what the entries do together, done twice, is what they do once. Assumes nothing.
-use Prim.Native.Nat.{ℕ, _+_, _*_, _^_, _<_, _≤_}
+use Prim.Native.Nat.{ℕ, _+_, _*_, _<_, _≤_}
 use mathlib.Core.Path.{_≡_, refl, sym, ap, ap₂, _∙_, fun-ext}
 use mathlib.Core.List.{List, [], _∷_, _++_}
 use mathlib.Core.Bool.{Bool, true, false, not, _&&_, _||_, cond}
@@ -24,8 +24,8 @@ use Rattle.rules.specs.declared.Verdict.{Verdict}
 use Rattle.rules.specs.declared.Move.{Move}
 use Rattle.rules.specs.First.{first}
 use Rattle.rules.specs.Graph.{graphVerdict}
-use Rattle.rules.specs.Move.{rowOf, known, personHolds, stepHas, isIncluded, waitsFor, after, entryMove, entryLines, moveOf}
-use Rattle.rules.specs.Sound.{Sound, Inside}
+use Rattle.rules.specs.Move.{known, personHolds, stepHas, isIncluded, waitsFor, after, entryMove, entryLines, moveOf}
+use Rattle.rules.specs.Sound.{Sound}
 use Rattle.journal.specs.Journal.{entries, entryAt}
 use Rattle.journal.specs.Laws.{entries-from}
 use Rattle.records.specs.declared.Record.{Record}

@@ -1,24 +1,17 @@
 -- Laws of the rules: in a graph with nothing against it, only a known person holds a role, and only a known step has one.
 -- Assumes nothing.
-use Prim.Native.Nat.{ℕ, _^_, _≤_, _<_}
-use mathlib.Core.Path.{_≡_, sym, ap, _∙_}
-use mathlib.Core.List.{List}
-use mathlib.Core.Bool.{Bool, true, false, _&&_, cond, true≢false}
-use native.Mathlib.Omega.{arith}
-use native.Mathlib.Decide.{decLt}
-use lib.ListN.{length, List·getD-eq-default}
-use lib.Dec.{ltb}
-use borrow.Author.Tests.{ltb-true, lt-ltb, le-ltb, not-false}
-use Rattle.sets.specs.Sets.{has, within, every}
+use mathlib.Core.Path.{_≡_}
+use mathlib.Core.Bool.{Bool, true, _&&_}
+use borrow.Author.Tests.{lt-ltb, not-false}
 use Rattle.sets.specs.Truth.{and-left, and-right, and-intro, same-truth}
-use Rattle.sets.specs.Laws.{every-at, has-zero, has-above, member-below}
+use Rattle.sets.specs.Laws.{member-below}
 use Rattle.rules.specs.declared.Graph.{Graph}
 use Rattle.rules.specs.declared.Entry.{Entry}
 use Rattle.rules.specs.declared.Verdict.{Verdict}
-use Rattle.rules.specs.Graph.{row, keeps, rolesFit, arrowsFit, setsFit, graphVerdict, rolesHeld, rolesOf}
+use Rattle.rules.specs.Graph.{keeps, arrowsFit, setsFit, graphVerdict, rolesHeld}
 use Rattle.rules.specs.Move.{known, personHolds, stepHas}
 use Rattle.rules.specs.Laws.{clear-head, clear-tail}
-use Rattle.rules.specs.Sound.{Sound, clear-sound, named-below}
+use Rattle.rules.specs.Sound.{clear-sound, named-below}
 use Rattle.folding.specs.Fold.{rowAt, possible}
 
 -- an entry is possible exactly if its person holds the role and its step has it

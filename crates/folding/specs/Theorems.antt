@@ -1,12 +1,11 @@
 -- The theorems on folding journals: a fold tells what the run does, the fold of one journal after another is the join of their
 -- folds, and going on from a record is going on from the run. Assumes nothing.
-use Prim.Native.Nat.{ℕ, _+_, _%_, _≤_}
+use Prim.Native.Nat.{ℕ, _+_}
 use mathlib.Core.Path.{_≡_, refl, sym, ap, ap₂, _∙_, subst}
 use mathlib.Core.List.{List, [], _∷_, _++_}
-use mathlib.Core.Bool.{Bool, true, false, cond}
-use mathlib.Core.Option.{Option, none, some, bind, Option·some-injective, Option·none-ne-some}
+use mathlib.Core.Bool.{Bool, true, false}
+use mathlib.Core.Option.{Option, none, some, bind}
 use native.Mathlib.Omega.{arith}
-use lib.ListN.{length}
 use borrow.Author.Tests.{le-leb}
 use Rattle.sets.specs.Truth.{and-intro}
 use Rattle.rules.specs.declared.Graph.{Graph}
@@ -17,9 +16,9 @@ use Rattle.rules.specs.declared.Refusal.the-variants.{NotApplied}
 use Rattle.rules.specs.declared.Verdict.{Verdict}
 use Rattle.rules.specs.declared.Move.{Move}
 use Rattle.rules.specs.Graph.{graphVerdict, within1to}
-use Rattle.rules.specs.Move.{entryMove, markingFits, noMarking}
+use Rattle.rules.specs.Move.{entryMove, markingFits}
 use Rattle.rules.specs.Laws.{Counted, clear-counts}
-use Rattle.rules.specs.Sound.{Sound, Inside, clear-sound, fits-inside, inside-fits}
+use Rattle.rules.specs.Sound.{Inside, clear-sound, fits-inside, inside-fits}
 use Rattle.journal.specs.declared.Ran.{Ran}
 use Rattle.journal.specs.Journal.{entries, lengthFits}
 use Rattle.journal.specs.Run.{goOn, runOn, theRun}
@@ -28,7 +27,7 @@ use Rattle.journal.specs.Runs.{andThen, later, ended-passes, journals-append}
 use Rattle.records.specs.declared.Record.{Record}
 use Rattle.records.specs.declared.Recorded.{Recorded}
 use Rattle.records.specs.declared.Applied.{Applied}
-use Rattle.records.specs.Records.{applies, gives, acts, wellFormed, join, identity}
+use Rattle.records.specs.Records.{acts, wellFormed, join, identity}
 use Rattle.records.specs.Laws.{acts-some, acts-none}
 use Rattle.records.specs.WellFormed.{WellFormed, well-formed, of-well-formed}
 use Rattle.records.specs.Answers.{theJoin, theApplication}

@@ -1,9 +1,9 @@
 -- The laws of the layout: the contents of laid-out bodies lead to these bodies, and a sheet whose contents fit is laid out from the bodies that
 -- they lead to. Assumes nothing.
-use Prim.Native.Nat.{ℕ, zero, suc, _+_, _-_, _*_, _/_, _%_, _≤_, _<_}
+use Prim.Native.Nat.{ℕ, zero, suc, _+_, _-_, _*_, _%_, _≤_, _<_}
 use mathlib.Core.Path.{_≡_, refl, sym, ap, ap₂, _∙_, subst}
 use mathlib.Core.List.{List, [], _∷_, _++_, map, append-assoc, append-nil}
-use mathlib.Core.Bool.{Bool, true, false, _&&_}
+use mathlib.Core.Bool.{true, _&&_}
 use native.Mathlib.Nat.{add-zero, mod-eq-of-lt, not-suc-le-zero, le-of-suc-le-suc}
 use native.Mathlib.Omega.{arith}
 use lib.ListN.{length, getD, take, drop, length-append, length-map, length-drop, take-append-drop}
@@ -12,7 +12,7 @@ use lib.Dec.{eqb}
 use borrow.Author.Tests.{eq-eqb, eqb-true}
 use Rattle.sets.specs.Truth.{and-left, and-right, and-intro}
 use Rattle.numbers.specs.Numbers.{number, bytes, Bytes}
-use Rattle.numbers.specs.Laws.{length-bytes, number-bytes, bytes-number, number-lt}
+use Rattle.numbers.specs.Laws.{number-bytes, bytes-number}
 use Rattle.layout.specs.Layout.{lineOf, contents, joined, start, front, laid, kindAt, offsetAt, sizeAt, bodyAt, follows, contentsFit}
 use Rattle.layout.specs.Lists.{drop-past, part-rest, length-part}
 

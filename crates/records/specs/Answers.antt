@@ -1,7 +1,7 @@
 -- What the calls answer: the table "Numbers on the door" for each, in its order, and the answer.
 use Prim.Native.Nat.{ℕ}
 use mathlib.Core.List.{List, [], _∷_}
-use mathlib.Core.Bool.{Bool, not, _&&_, cond}
+use mathlib.Core.Bool.{not, _&&_, cond}
 use lib.Dec.{leb}
 use Rattle.rules.specs.declared.Marking.{Marking}
 use Rattle.rules.specs.declared.Refusal.the-variants.{Counts, Outside, IllFormed, NotApplied}

@@ -8,7 +8,7 @@ use mathlib.Core.Option.{Option, none, some, bind, Option·some-injective, Optio
 use lib.ListN.{getD}
 use lib.Bits.{or-zero-r}
 use borrow.Author.Tests.{eqb-true}
-use Rattle.sets.specs.Sets.{union, meet, minus, empty, subset}
+use Rattle.sets.specs.Sets.{union, meet, minus, empty}
 use Rattle.sets.specs.Truth.{and-right}
 use Rattle.sets.specs.Laws.{empty-union, minus-zero}
 use Rattle.sets.specs.Digits.{at-digit, as-sets, by-digits}

@@ -2,7 +2,7 @@
 use Prim.Native.Nat.{ℕ, zero, suc, _+_, _-_, _*_, _%_, _^_, _≤_, _<_}
 use mathlib.Core.Path.{_≡_, refl, sym, ap, ap₂, _∙_, subst}
 use mathlib.Core.List.{List, [], _∷_, _++_, append-assoc}
-use mathlib.Core.Bool.{Bool, true, false, not, _&&_, cond}
+use mathlib.Core.Bool.{Bool, true, false, _&&_, cond}
 use mathlib.Core.Logic.{_↔_}
 use native.Mathlib.Omega.{arith}
 use native.Mathlib.Nat.{lt-of-lt-of-le}
@@ -19,7 +19,7 @@ use Rattle.numbers.specs.Laws.{length-bytes, number-bytes, bytes-number, splice
 use Rattle.records.specs.declared.Record.{Record}
 use Rattle.records.specs.declared.Recorded.{Recorded}
 use Rattle.records.specs.Records.{setsOf, wellFormed}
-use Rattle.records.specs.WellFormed.{Bounded, WellFormed, well-formed}
+use Rattle.records.specs.WellFormed.{Bounded, well-formed}
 use Rattle.records.specs.Unique.{Alike}
 use Rattle.records.specs.Theorems.{equal-exactly}
 use Rattle.records.specs.Bytes.{flag, spelt, recordBytes, recordAt, readable, theReading}

@@ -1,21 +1,21 @@
 -- Two well-formed records that act alike at every marking of n steps are the same. Each is shown by what it does at a few
 -- markings: its own needs and no more, its own needs with all that it lets be included, and everything. Assumes nothing.
 use Prim.Native.Nat.{ℕ, _^_, _<_}
-use mathlib.Core.Path.{_≡_, refl, sym, ap, ap₂, _∙_, subst}
+use mathlib.Core.Path.{_≡_, refl, sym, ap, ap₂, _∙_}
 use mathlib.Core.List.{List, [], _∷_}
-use mathlib.Core.Bool.{Bool, true, false, not, _&&_, cond, true≢false, false≢true}
-use mathlib.Core.Option.{Option, none, some}
+use mathlib.Core.Bool.{Bool, true, false, not, _&&_, cond, true≢false}
+use mathlib.Core.Option.{none, some}
 use lib.ListN.{getD}
 use lib.Bits.{bitXor, xor-self, and-zero-r, or-zero-r}
 use lib.Pow.{pow-pos}
 use borrow.Author.Tests.{eqb-true, eq-eqb, lt-ltb}
-use Rattle.sets.specs.Sets.{union, meet, minus, empty, full}
+use Rattle.sets.specs.Sets.{union, meet, minus, full}
 use Rattle.sets.specs.Laws.{union-lt, minus-lt, full-lt, subset-full, minus-zero}
 use Rattle.sets.specs.Digits.{at-digit, as-sets, by-digits}
 use Rattle.rules.specs.declared.Marking.{Marking}
 use Rattle.rules.specs.Sound.{Inside}
 use Rattle.records.specs.declared.Record.{Record}
-use Rattle.records.specs.Records.{applies, gives, acts, impossible}
+use Rattle.records.specs.Records.{applies, gives, acts}
 use Rattle.records.specs.Laws.{lacks, applies-lacks, applies-none, applies-never, acts-some}
 use Rattle.records.specs.WellFormed.{Bounded, WellFormed}
 

@@ -1,24 +1,19 @@
 -- Well-formed records: what that means set by set, and that tidying and joining give well-formed records.
 -- Assumes nothing.
 use Prim.Native.Nat.{ℕ, _^_, _<_}
-use mathlib.Core.Path.{_≡_, refl, sym, ap, ap₂, _∙_}
+use mathlib.Core.Path.{_≡_, refl, sym, ap, _∙_}
 use mathlib.Core.List.{List, [], _∷_}
-use mathlib.Core.Bool.{Bool, true, false, not, _&&_, _||_, cond, true≢false, false≢true}
-use mathlib.Core.Option.{Option, none, some, bind}
-use native.Mathlib.Omega.{arith}
+use mathlib.Core.Bool.{Bool, true, false, not, _&&_, _||_, cond, false≢true}
 use lib.ListN.{getD}
 use lib.Dec.{leb}
 use lib.Pow.{pow-pos}
 use borrow.Author.Tests.{eqb-true, eq-eqb, ltb-true, lt-ltb}
-use Rattle.sets.specs.Sets.{union, meet, minus, empty, subset, within, full}
+use Rattle.sets.specs.Sets.{union, meet, minus, empty, within, full}
 use Rattle.sets.specs.Truth.{and-left, and-right, and-intro}
 use Rattle.sets.specs.Laws.{union-lt, meet-lt, minus-lt, within-full, within-union, empty-union}
-use Rattle.sets.specs.Digits.{at-digit, as-sets, by-digits}
-use Rattle.rules.specs.declared.Marking.{Marking}
-use Rattle.rules.specs.Sound.{Inside}
+use Rattle.sets.specs.Digits.{at-digit, as-sets}
 use Rattle.records.specs.declared.Record.{Record}
-use Rattle.records.specs.Records.{applies, gives, acts, setsOf, clashes, each, wellFormed, compose, sorted, tidy, impossible, join, identity}
-use Rattle.records.specs.Laws.{lacks, applies-lacks, applies-none}
+use Rattle.records.specs.Records.{setsOf, clashes, each, wellFormed, compose, sorted, tidy, impossible, join, identity}
 
 -- ---- well-formed, set by set
 

@@ -1,7 +1,7 @@
 -- Graphs (Definitions 3 and 5), and when one handed over as a value is refused.
 use Prim.Native.Nat.{ℕ}
 use mathlib.Core.List.{List, [], _∷_}
-use mathlib.Core.Bool.{Bool, true, false, not, _&&_, cond}
+use mathlib.Core.Bool.{Bool, not, _&&_, cond}
 use lib.ListN.{length, getD}
 use lib.Dec.{ltb, leb}
 use Rattle.sets.specs.Sets.{meet, empty, within, every}

@@ -1,6 +1,6 @@
 -- The laws of the rules: which number is given, when a graph is as document 01 has it, and what the code's tests say of it.
 -- Assumes nothing.
-use Prim.Native.Nat.{ℕ, zero, suc, _+_, _^_, _≤_, _<_, zero-le}
+use Prim.Native.Nat.{ℕ, zero, suc, _+_, _^_, _≤_, _<_}
 use mathlib.Core.Path.{_≡_, refl, sym, ap, ap₂, _∙_, subst}
 use mathlib.Core.List.{List, [], _∷_, _++_}
 use mathlib.Core.Bool.{Bool, true, false, not, _&&_, _||_, cond, true≢false, false≢true}
@@ -9,8 +9,8 @@ use native.Mathlib.Omega.{arith}
 use native.Mathlib.Decide.{decLt}
 use lib.ListN.{length}
 use lib.Dec.{eqb, ltb, leb}
-use borrow.Author.Tests.{ltb-true, leb-true, lt-ltb, le-ltb, lt-leb, eq-eqb, ne-eqb, eqb-true, not-true, not-false}
-use Rattle.sets.specs.Sets.{has, single, union, meet, minus, empty, within, full, gather, every, lowest, subset}
+use borrow.Author.Tests.{ltb-true, leb-true, lt-ltb, le-ltb, lt-leb, eq-eqb, eqb-true, not-false}
+use Rattle.sets.specs.Sets.{union, empty, within, full, gather, every}
 use Rattle.sets.specs.Truth.{and-exchange, and-left, and-right, and-intro, same-truth, or-first, or-second, or-split}
 use Rattle.sets.specs.Laws.{empty-gather, empty-union, within-gather, within-union, within-full, every-and, every-same, every-at, every-of}
 use Rattle.rules.specs.declared.Graph.{Graph}
@@ -24,7 +24,7 @@ use Rattle.rules.specs.declared.Refusal.the-variants.{Outside, Unknown}
 use Rattle.rules.specs.First.{Line, first, number, numberOf}
 use Rattle.rules.specs.Graph.{row, keeps, rolesFit, arrowsFit, kindsApart, graphLines, graphVerdict, countsFit, within1to}
 use Rattle.rules.specs.Gathered.{beyond, rowsTogether, rowsShared, Sized}
-use Rattle.rules.specs.Move.{moveOf, entryMove, moveOn, theMove, theEnding, endingOn, endingOf, isFinished, known, markingFits, moveLines, entryLines, markingLines, sizeLines, rowLines, rowOf, after, noMarking}
+use Rattle.rules.specs.Move.{moveOf, entryMove, moveOn, theMove, theEnding, endingOn, endingOf, isFinished, known, markingFits, entryLines, markingLines, sizeLines, rowLines, rowOf, after, noMarking}
 
 -- ---- the first line that holds
 

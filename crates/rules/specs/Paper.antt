@@ -2,24 +2,21 @@
 -- Assumes nothing.
 use Prim.Native.Nat.{ℕ, _<_, _≤_}
 use mathlib.Core.Path.{_≡_, refl, sym, ap, ap₂, _∙_}
-use mathlib.Core.Logic.{_↔_}
-use mathlib.Core.List.{List, [], _∷_, _++_}
-use mathlib.Core.Bool.{Bool, true, false, not, _&&_, _||_, cond, true≢false, false≢true}
-use native.Mathlib.Omega.{arith}
+use mathlib.Core.List.{_++_}
+use mathlib.Core.Bool.{Bool, true, false, not, _&&_, _||_, false≢true}
 use lib.Dec.{eqb}
-use borrow.Author.Tests.{not-true, not-false, eq-eqb, eqb-true}
+use borrow.Author.Tests.{not-false}
 use Rattle.sets.specs.Sets.{has, single, union, meet, minus, empty}
 use Rattle.sets.specs.Laws.{has-union, has-meet, has-minus, has-single, empty-members, members-empty}
 use Rattle.rules.specs.declared.Graph.{Graph}
 use Rattle.rules.specs.declared.Marking.{Marking}
 use Rattle.rules.specs.declared.Entry.{Entry}
-use Rattle.rules.specs.declared.Refusal.{Refusal}
 use Rattle.rules.specs.declared.Verdict.{Verdict}
 use Rattle.rules.specs.declared.Move.{Move}
 use Rattle.rules.specs.First.{first, number, numberOf}
 use Rattle.rules.specs.Graph.{graphLines, graphVerdict, conditionsOf, responsesOf, includesOf, excludesOf, rolesOf, rolesHeld}
-use Rattle.rules.specs.Move.{theMove, moveOn, moveOf, entryMove, moveLines, entryLines, markingLines, rowLines, known, after, rowOf, waitsFor, isFinished, markingFits, noMarking}
-use Rattle.rules.specs.Laws.{ascends, holds, first-holds, first-lowest, clear-head, clear-tail, clear-front, first-clear}
+use Rattle.rules.specs.Move.{theMove, moveOf, moveLines, entryLines, markingLines, rowLines, known, after, rowOf, waitsFor, isFinished, markingFits}
+use Rattle.rules.specs.Laws.{ascends, holds, first-lowest, clear-head, clear-tail, clear-front, first-clear}
 use Rattle.rules.specs.Entries.{moved-clear, moved-after}
 
 -- ---- Definition 3: the relations

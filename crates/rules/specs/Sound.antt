@@ -3,22 +3,21 @@
 use Prim.Native.Nat.{ℕ, _^_, _<_, _≤_}
 use mathlib.Core.Path.{_≡_, sym, ap, _∙_, subst}
 use mathlib.Core.List.{List}
-use mathlib.Core.Bool.{Bool, true, false, not, _&&_, cond, true≢false}
+use mathlib.Core.Bool.{Bool, true, false, _&&_, cond, true≢false}
 use native.Mathlib.Nat.{lt-of-lt-of-le, lt-of-le-of-lt}
 use native.Mathlib.Omega.{arith}
 use native.Mathlib.Decide.{decLt}
 use lib.ListN.{length, List·getD-eq-default}
-use lib.Dec.{ltb, leb}
+use lib.Dec.{ltb}
 use lib.Pow.{pow-pos, pow-mono}
 use borrow.Author.Tests.{ltb-true, lt-ltb, le-ltb, not-false}
-use Rattle.sets.specs.Sets.{has, single, union, meet, minus, empty, within, every}
+use Rattle.sets.specs.Sets.{has, single, union, meet, minus, empty, within}
 use Rattle.sets.specs.Truth.{and-left, and-right, and-intro}
-use Rattle.sets.specs.Laws.{every-at, empty-members, has-meet, has-zero, union-lt, minus-lt, single-lt}
+use Rattle.sets.specs.Laws.{every-at, has-zero, union-lt, minus-lt, single-lt}
 use Rattle.rules.specs.declared.Graph.{Graph}
-use Rattle.rules.specs.declared.inner.Row.{Row}
 use Rattle.rules.specs.declared.Marking.{Marking}
 use Rattle.rules.specs.declared.Verdict.{Verdict}
-use Rattle.rules.specs.Graph.{row, keeps, setsFit, kindsApart, countsFit, graphVerdict, conditionsOf, responsesOf, includesOf, excludesOf, rolesOf, rolesHeld}
+use Rattle.rules.specs.Graph.{row, keeps, setsFit, kindsApart, graphVerdict, conditionsOf, responsesOf, includesOf, excludesOf, rolesOf, rolesHeld}
 use Rattle.rules.specs.Move.{after, markingFits, rowOf}
 use Rattle.rules.specs.Laws.{Counted, clear-counts, clear-head, clear-tail}
 

@@ -8,7 +8,7 @@ use native.Mathlib.Decide.{ℕ-discrete}
 use lib.Dec.{eqb}
 use borrow.Author.Tests.{eq-eqb, ne-eqb, eqb-true}
 use Rattle.sets.specs.Sets.{has, single, meet, minus, lowest}
-use Rattle.sets.specs.Laws.{Least, lowest-least, lowest-has, has-half, has-low, has-meet, has-minus, has-single, ext}
+use Rattle.sets.specs.Laws.{lowest-least, lowest-has, has-half, has-low, has-meet, has-minus, has-single, ext}
 
 odd : (x : ℕ) → has x 0 ≡ true → x % 2 ≡ 1
 odd x e = eqb-true (x % 2) 1 (sym (has-low x (x % 2) refl) ∙ e)

@@ -1,18 +1,17 @@
 -- The laws of step sets, grouped by operation. All go through membership: `has` of each operation, and `ext`, two sets with
 -- the same members are the same number. None has a bound that it does not need. Assumes nothing.
 use Prim.Native.Nat.{ℕ, zero, suc, _+_, _-_, _*_, _/_, _%_, _^_, _≤_, _<_, zero-le, suc-le-suc}
-use native.Mathlib.Nat.{not-suc-le-zero, mod-lt, div-one, div-add-mod', div-div-eq-div-mul, pow-suc, pow-zero, two-pow-succ, lt-of-lt-of-le, lt-of-le-of-lt, le-of-suc-le-suc, lt-irrefl, div-eq-of-lt, zero-div, one-mul, div-lt-iff-lt-mul, le-trans, le-refl, add-suc, add-zero, zero-add}
+use native.Mathlib.Nat.{not-suc-le-zero, mod-lt, div-one, two-pow-succ, lt-of-lt-of-le, lt-of-le-of-lt, le-of-suc-le-suc, div-eq-of-lt, zero-div, one-mul, div-lt-iff-lt-mul, le-trans, le-refl, add-zero}
 use native.Mathlib.Numerals.{add-one}
 use native.Mathlib.Omega.{arith}
-use native.Mathlib.Decide.{decLt, decLe}
+use native.Mathlib.Decide.{decLt}
 use mathlib.Core.Path.{_≡_, refl, sym, ap, ap₂, _∙_, subst, fun-ext}
-use mathlib.Core.Logic.{_⊎_, ⊎-elim, _↔_}
 use mathlib.Core.Bool.{Bool, true, false, not, _&&_, _||_, cond, true≢false, false≢true}
-use lib.Dec.{T, eqb, ltb, leb, eqb·zero-suc, eqb·suc-zero, eqb·suc-suc, leb·suc-suc, lit<}
-use lib.Bits.{bitAnd, bitOr, bitXor, and-shr, or-shr, xor-shr, and-mod, or-mod, xor-mod, or-lt, and-lt, xor-lt, and-le-l, and-le-r, or-add-and, and-zero-r, xor-zero-r}
+use lib.Dec.{eqb, ltb, leb, eqb·zero-suc, eqb·suc-zero, eqb·suc-suc, leb·suc-suc, lit<}
+use lib.Bits.{bitXor, and-shr, or-shr, xor-shr, and-mod, or-mod, xor-mod, or-lt, xor-lt, and-le-l, and-le-r, or-add-and, and-zero-r, xor-zero-r}
 use lib.Count.{trailingZeros, under}
 use lib.Pow.{pow-pos, pow-mono, pow-lt, shr-shr, ones-lt, le-ones, lt-of-le-ones, shl-exact}
-use borrow.Author.Tests.{lt-ltb, le-ltb, eq-eqb, ne-eqb, eqb-true, eqb-false, ltb-true, le-leb, leb-true}
+use borrow.Author.Tests.{lt-ltb, le-ltb, eq-eqb, ne-eqb, eqb-true, ltb-true, le-leb, leb-true}
 use Rattle.sets.specs.Sets.{has, single, union, meet, minus, empty, subset, within, full, scan, lowest, gather, every}
 use Rattle.sets.specs.Truth.{same-truth, and-intro, and-left, and-right, and-exchange, or-false, and-false, and-true, is-false}
 

@@ -1,8 +1,8 @@
 -- What there is to a graph and a marking that nothing is against, and the sheet of them as the writer goes. Assumes nothing.
-use Prim.Native.Nat.{ℕ, zero, suc, _+_, _-_, _*_, _^_, _≤_, _<_}
-use mathlib.Core.Path.{_≡_, refl, sym, ap, ap₂, _∙_, subst}
+use Prim.Native.Nat.{ℕ, _+_, _-_, _*_, _≤_, _<_}
+use mathlib.Core.Path.{_≡_, sym, ap, ap₂, _∙_}
 use mathlib.Core.List.{List, [], _∷_, _++_, map, append-nil}
-use mathlib.Core.Bool.{Bool, true, false, not, _&&_, cond}
+use mathlib.Core.Bool.{Bool, true, _&&_, cond}
 use native.Mathlib.Omega.{arith}
 use lib.ListN.{length, drop, length-append}
 use lib.Seq.{sets, sets-eq}
@@ -19,16 +19,16 @@ use Rattle.rules.specs.Graph.{row, keeps, countsFit, setsFit, kindsApart}
 use Rattle.rules.specs.Move.{markingFits}
 use Rattle.rules.specs.Laws.{Counted, counts-bound, first-clear, first-refused, clear-head, clear-tail}
 use Rattle.rules.specs.Sound.{Inside, fits-inside, keeps-row, keeps-gone}
-use Rattle.arrows.specs.Arrows.{Arrow, spelt, arrowsOf, fourTables}
+use Rattle.arrows.specs.Arrows.{spelt}
 use Rattle.arrows.specs.Places.{spelt-append}
-use Rattle.arrows.specs.Rows.{kindArrows, countOf, turned, Kept, byKind, by-kind}
+use Rattle.arrows.specs.Rows.{kindArrows, turned, Kept, by-kind}
 use Rattle.numbers.specs.Numbers.{Spliced}
 use Rattle.layout.specs.Layout.{front, joined}
 use Rattle.layout.specs.Laws.{length-front}
 use Rattle.bodies.specs.Bodies.{countsBody, markingBody, rolesBody}
 use Rattle.bodies.specs.Laws.{length-counts, length-marking, length-roles}
 use Rattle.sheet.specs.declared.Written.{Written}
-use Rattle.sheet.specs.Sheet.{arrowsBody, bodiesOf, sheetBytes, contentLines, writeVerdict, writtenOf, theWritten, roomAfter, ifClear}
+use Rattle.sheet.specs.Sheet.{arrowsBody, bodiesOf, sheetBytes, contentLines, writeVerdict, writtenOf, theWritten, roomAfter}
 use Rattle.sheet.specs.Judge.{if-clear, if-refused}
 use Rattle.sheet.specs.Write.{arrowCount, arrowsWritten, sizesWritten, bodiesWritten, length-arrows}
 

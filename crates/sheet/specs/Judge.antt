@@ -2,14 +2,13 @@
 use Prim.Native.Nat.{ℕ, zero, suc, _+_, _*_, _%_, _≤_, _<_}
 use mathlib.Core.Path.{_≡_, refl, sym, ap, ap₂, _∙_, subst}
 use mathlib.Core.List.{List, tail}
-use mathlib.Core.Bool.{Bool, true, false, not, _&&_}
+use mathlib.Core.Bool.{Bool, true, false, _&&_}
 use native.Mathlib.Omega.{arith}
 use lib.ListN.{length, getD, replicate}
 use lib.Dec.{eqb, leb}
 use borrow.Author.Tests.{leb-true, eqb-true, not-false}
-use Rattle.sets.specs.Sets.{meet, empty, every, gather}
+use Rattle.sets.specs.Sets.{meet, empty, every}
 use Rattle.sets.specs.Truth.{and-left, and-right}
-use Rattle.sets.specs.Laws.{empty-gather}
 use Rattle.rules.specs.declared.Verdict.{Verdict}
 use Rattle.rules.specs.declared.Refusal.{Refusal}
 use Rattle.rules.specs.declared.Refusal.the-variants.{Layout, Counts, Bodies, Beyond, Arrows, Both}
@@ -19,7 +18,7 @@ use Rattle.rules.specs.Laws.{Counted, counts-bound, clear-head, clear-tail}
 use Rattle.arrows.specs.Arrows.{Arrow, arrowsFit, tableOf}
 use Rattle.arrows.specs.Places.{fit-places}
 use Rattle.arrows.specs.Loops.{filled, filled-all}
-use Rattle.layout.specs.Layout.{contentsFit, follows, start, offsetAt, sizeAt, bodyAt}
+use Rattle.layout.specs.Layout.{contentsFit, follows, offsetAt, sizeAt, bodyAt}
 use Rattle.layout.specs.Laws.{body-inside}
 use Rattle.layout.specs.Lists.{length-part}
 use Rattle.bodies.specs.Bodies.{quarter}

@@ -1,18 +1,17 @@
 -- The sheet as the writer goes: front, then the bodies one after the other. Assumes nothing.
-use Prim.Native.Nat.{ℕ, zero, suc, _+_, _-_, _*_, _^_, _≤_, _<_}
-use mathlib.Core.Path.{_≡_, refl, sym, ap, ap₂, _∙_, subst}
-use mathlib.Core.List.{List, [], _∷_, _++_, append-nil}
-use mathlib.Core.Bool.{Bool, true, false, not, _&&_, cond}
+use Prim.Native.Nat.{ℕ, zero, suc, _+_, _-_, _*_, _≤_, _<_}
+use mathlib.Core.Path.{_≡_}
+use mathlib.Core.List.{List, [], _∷_, _++_}
+use mathlib.Core.Bool.{true, false}
 use native.Mathlib.Omega.{arith}
 use lib.ListN.{length, getD, length-append}
 use lib.Dec.{lit<}
 use Rattle.rules.specs.declared.Graph.{Graph}
 use Rattle.rules.specs.declared.Marking.{Marking}
 use Rattle.rules.specs.declared.Verdict.{Verdict}
-use Rattle.rules.specs.declared.Refusal.{Refusal}
 use Rattle.rules.specs.declared.Refusal.the-variants.{Counts, Beyond}
 use Rattle.rules.specs.First.{first}
-use Rattle.rules.specs.Graph.{row, countsFit, setsFit, kindsApart, graphVerdict}
+use Rattle.rules.specs.Graph.{row, countsFit, graphVerdict}
 use Rattle.rules.specs.Move.{markingFits}
 use Rattle.arrows.specs.Arrows.{spelt}
 use Rattle.arrows.specs.Rows.{kindArrows, countOf}

@@ -1,7 +1,7 @@
 -- Records at the border: as bytes, as nine words, and their answers as words.
 use Prim.Native.Nat.{ℕ, _*_}
 use mathlib.Core.List.{List, _++_}
-use mathlib.Core.Bool.{true, false, cond}
+use mathlib.Core.Bool.{true, cond}
 use lib.ListN.{getD, set, drop}
 use lib.Dec.{eqb, ltb}
 use Rattle.rules.specs.declared.Verdict.{Verdict}

@@ -3,7 +3,6 @@ use Prim.Native.Nat.{_≤_}
 use mathlib.Core.Path.{sym}
 use native.Mathlib.Omega.{arith}
 use lib.Count.{ones, ones-le}
-use borrow.Author.Needs.{needs}
 use Rattle.arrows.specs.Rows.{members-count}
 use Rattle.arrows.proofs.many.Statement.{statement}
 use Rattle.arrows.proofs.many.Tie as tie

@@ -1,5 +1,5 @@
 -- `sets::full`: the steps below n are 2 ^ (n - 1) and all digits below it, a sum that fits the word at n = 64 too. Assumes nothing.
-use Prim.Native.Nat.{ℕ, _+_, _-_, _<_, _≤_, _^_}
+use Prim.Native.Nat.{ℕ, _+_, _-_, _≤_, _^_}
 use mathlib.Core.Path.{_≡_, _∙_, ap, sym}
 use native.Mathlib.Nat.{not-suc-le-zero}
 use native.Mathlib.Omega.{arith, ne-cases}

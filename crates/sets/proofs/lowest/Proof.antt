@@ -1,6 +1,5 @@
 -- `sets::lowest`: the count of zeros below the lowest digit is least, and so is the scan; the least is one. Assumes nothing.
-use Prim.Native.Nat.{_%_, _≤_}
-use mathlib.Core.Path.{_≡_, _∙_}
+use mathlib.Core.Path.{_∙_}
 use native.Mathlib.Nat.{mod-eq-of-lt, lt-of-le-of-lt}
 use lib.Dec.{lit<}
 use lib.Count.{trailingZeros, trailing-le}

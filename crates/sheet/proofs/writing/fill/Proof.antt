@@ -1,9 +1,8 @@
 -- `fill`: the front, then the bodies. Assumes nothing.
-use Prim.Native.Nat.{ℕ, _≤_}
+use Prim.Native.Nat.{_≤_}
 use mathlib.Core.Path.{_≡_, _∙_}
 use native.Mathlib.Omega.{arith}
 use lib.ListN.{length}
-use borrow.Author.Needs.{needs}
 use Rattle.numbers.specs.Laws.{spliced-length, spliced-then}
 use Rattle.layout.specs.Layout.{front}
 use Rattle.layout.specs.Laws.{length-front}

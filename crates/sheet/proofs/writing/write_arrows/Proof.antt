@@ -1,10 +1,9 @@
 -- `write_arrows`: the four kinds, one after the other. Assumes nothing.
-use Prim.Native.Nat.{ℕ, _*_}
+use Prim.Native.Nat.{_*_}
 use mathlib.Core.Path.{_≡_, _∙_}
 use mathlib.Core.List.{_++_}
 use native.Mathlib.Omega.{arith}
 use lib.ListN.{length}
-use borrow.Author.Needs.{needs}
 use Rattle.rules.specs.Graph.{row}
 use Rattle.numbers.specs.Laws.{spliced-length, spliced-then}
 use Rattle.arrows.specs.Arrows.{spelt}
