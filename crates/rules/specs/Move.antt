@@ -12,7 +12,7 @@ use Rattle.rules.specs.declared.Refusal.the-variants.{Outside, Unknown, 
 use Rattle.rules.specs.declared.Verdict.{Verdict}
 use Rattle.rules.specs.declared.Move.{Move}
 use Rattle.rules.specs.declared.Ending.{Ending}
-use Rattle.rules.specs.First.{Line, first, numberOf}
+use Rattle.rules.specs.First.{Line, first, numberOf, stepOf}
 use Rattle.rules.specs.Graph.{graphLines, conditionsOf, responsesOf, includesOf, excludesOf, rolesOf, rolesHeld}
 
 -- what person p and step s meet of the graph: {r | p as r}, {r | s as r}, {a | a →• s}, {b | s •→ b}, {b | s →+ b}, {b | s →% b}
@@ -107,6 +107,29 @@ endingOf (Verdict.Refused r) done = Ending.Refused r
 -- is the job finished?
 unfoldable pub theEnding : Graph → Marking → Ending
 theEnding g m = endingOf (first (graphLines g ++ markingLines g m)) (isFinished m)
+
+-- ---- document 01's number and values of each case
+
+-- 0 where the step is taken
+unfoldable pub numberOfMove : Move → ℕ
+numberOfMove (Move.Moved m) = 0
+numberOfMove (Move.Refused r m) = numberOf r
+
+-- the waiting step of 15
+unfoldable pub stepOfMove : Move → ℕ
+stepOfMove (Move.Moved m) = 0
+stepOfMove (Move.Refused r m) = stepOf r
+
+-- the marking after, or what is given back
+unfoldable pub markingOfMove : Move → Marking
+markingOfMove (Move.Moved m) = m
+markingOfMove (Move.Refused r m) = m
+
+-- 0 where the job is finished or not
+unfoldable pub numberOfEnding : Ending → ℕ
+numberOfEnding Ending.Finished = 0
+numberOfEnding Ending.Open = 0
+numberOfEnding (Ending.Refused r) = numberOf r
 
 -- ---- the same on a graph, and then a marking, that are as they should be: what the calls go by inside
 

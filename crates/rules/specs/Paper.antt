@@ -15,7 +15,7 @@ use Rattle.rules.specs.declared.Verdict.{Verdict}
 use Rattle.rules.specs.declared.Move.{Move}
 use Rattle.rules.specs.First.{first, number, numberOf}
 use Rattle.rules.specs.Graph.{graphLines, graphVerdict, conditionsOf, responsesOf, includesOf, excludesOf, rolesOf, rolesHeld}
-use Rattle.rules.specs.Move.{theMove, moveOf, moveLines, entryLines, markingLines, rowLines, known, after, rowOf, waitsFor, isFinished, markingFits}
+use Rattle.rules.specs.Move.{theMove, moveOf, moveLines, entryLines, markingLines, rowLines, known, after, rowOf, waitsFor, isFinished, markingFits, numberOfMove, numberOfEnding, endingOf, theEnding}
 use Rattle.rules.specs.Laws.{ascends, holds, first-lowest, clear-head, clear-tail, clear-front, first-clear}
 use Rattle.rules.specs.Entries.{moved-clear, moved-after}
 
@@ -125,18 +125,24 @@ allowed-moved g m e r w =
 
 -- ---- the number is exactly the first of the table that holds
 
-pub moveNumber : Move → ℕ
-moveNumber (Move.Moved m) = 0
-moveNumber (Move.Refused r m) = numberOf r
-
-of-number : (v : Verdict) (m next : Marking) → moveNumber (moveOf v m next) ≡ number v
-unfolding moveNumber moveOf number
+of-number : (v : Verdict) (m next : Marking) → numberOfMove (moveOf v m next) ≡ number v
+unfolding numberOfMove moveOf number
 of-number Verdict.Clear m next = refl
 of-number (Verdict.Refused r) m next = refl
 
-pub move-number : (g : Graph) (m : Marking) (e : Entry) → moveNumber (theMove g m e) ≡ number (first (moveLines g m e))
+pub move-number : (g : Graph) (m : Marking) (e : Entry) → numberOfMove (theMove g m e) ≡ number (first (moveLines g m e))
 unfolding theMove
 move-number g m e = of-number (first (moveLines g m e)) m (after (rowOf g (e .person) (e .step .0)) m (e .step .0))
+
+ending-of : (v : Verdict) (done : Bool) → numberOfEnding (endingOf v done) ≡ number v
+unfolding numberOfEnding endingOf number
+ending-of Verdict.Clear true = refl
+ending-of Verdict.Clear false = refl
+ending-of (Verdict.Refused r) done = refl
+
+pub ending-number : (g : Graph) (m : Marking) → numberOfEnding (theEnding g m) ≡ number (first (graphLines g ++ markingLines g m))
+unfolding theEnding
+ending-number g m = ending-of (first (graphLines g ++ markingLines g m)) (isFinished m)
 
 -- the table of the move goes up, so that the first that holds is the lowest
 pub move-ascends : (g : Graph) (m : Marking) (e : Entry) → ascends 0 (moveLines g m e) ≡ true
@@ -144,7 +150,7 @@ unfolding ascends numberOf
 move-ascends g m e = refl
 
 pub move-lowest : (g : Graph) (m : Marking) (e : Entry) (k : ℕ) → holds k (moveLines g m e) ≡ true
-    → (0 < moveNumber (theMove g m e)) × (moveNumber (theMove g m e) ≤ k)
+    → (0 < numberOfMove (theMove g m e)) × (numberOfMove (theMove g m e) ≤ k)
 move-lowest g m e k h = rw move-number (first-lowest 0 (moveLines g m e) (move-ascends g m e) k h)
 
 -- ---- Definition 4 (ii), (v), (vi), set by set

@@ -8,7 +8,7 @@ use Rattle.rules.specs.declared.Graph.{Graph}
 use Rattle.rules.specs.declared.Marking.{Marking}
 use Rattle.rules.specs.declared.Entry.{Entry}
 use Rattle.rules.specs.declared.Move.{Move}
-use Rattle.rules.specs.First.{numberOf, stepOf}
+use Rattle.rules.specs.Move.{numberOfMove, stepOfMove, markingOfMove}
 use Rattle.records.specs.declared.Recorded.{Recorded}
 use Rattle.tracker.specs.declared.Tracked.{Tracked}
 use Rattle.tracker.specs.Tracker.{theStep}
@@ -69,9 +69,8 @@ graph steps people roles stepRoles held arrows =
     }
 
 -- an answer to a step: the number, the step that goes with it, the marking
-unfoldable pub given : Move → ℕ × ℕ × Marking
-given (Move.Moved m) = (0, 0, m)
-given (Move.Refused r m) = (numberOf r, stepOf r, m)
+abbrev pub given : Move → ℕ × ℕ × Marking
+given o = (numberOfMove o, stepOfMove o, markingOfMove o)
 
 -- ---- the job
 

@@ -6,7 +6,7 @@ use mathlib.Core.Bool.{true, false}
 use Rattle.sets.specs.Sets.{has, full, scan, lowest, every}
 use Rattle.rules.specs.First.{first, numberOf, stepOf}
 use Rattle.rules.specs.Graph.{keeps, setsFit}
-use Rattle.rules.specs.Move.{theMove, moveOf, entryMove, isFinished}
+use Rattle.rules.specs.Move.{theMove, moveOf, entryMove, isFinished, numberOfMove, stepOfMove, markingOfMove}
 use Rattle.journal.specs.Journal.{entries}
 use Rattle.records.specs.declared.Recorded.{Recorded}
 use Rattle.records.specs.Records.{impossible, tidy, join}
@@ -79,5 +79,5 @@ twelve = (
 )
 
 pub samples-hold : Hold samples
-unfolding samples set rows targets sources table given job tracking first numberOf stepOf keeps setsFit theMove moveOf theStart theStep trackAfter trackedOf has full scan lowest every journal theFold recordedOf foldOf entryRecord tidy join entries
+unfolding samples set rows targets sources table job tracking first numberOf stepOf keeps setsFit theMove moveOf numberOfMove stepOfMove markingOfMove theStart theStep trackAfter trackedOf has full scan lowest every journal theFold recordedOf foldOf entryRecord tidy join entries
 samples-hold = refl also (refl, refl) also refl also (refl, refl) also refl also refl also refl also refl also refl also refl also refl also twelve also (refl, refl) also tt

@@ -8,7 +8,7 @@ use Rattle.rules.specs.declared.Graph.{Graph}
 use Rattle.rules.specs.declared.Marking.{Marking}
 use Rattle.rules.specs.declared.Verdict.{Verdict}
 use Rattle.rules.specs.declared.Refusal.the-variants.{Layout, Counts, Bodies, Beyond, Arrows, Both, Room}
-use Rattle.rules.specs.First.{Line, first}
+use Rattle.rules.specs.First.{Line, first, numberOf}
 use Rattle.rules.specs.Graph.{countsFit, setsFit, kindsApart}
 use Rattle.rules.specs.Move.{markingFits, noMarking}
 use Rattle.arrows.specs.Arrows.{Arrow, arrowsIn, arrowsFit, tableOf, spelt, arrowsOf, fourTables}
@@ -167,3 +167,15 @@ theWritten g m room = writtenOf (writeVerdict g m room) (length (sheetBytes g m)
 -- the room afterwards: the sheet, and what stood beyond it; on a refusal as it was
 abbrev pub roomAfter : Graph → Marking → List ℕ → List ℕ
 roomAfter g m old = ifClear (writeVerdict g m (length old)) (sheetBytes g m ++ drop (length (sheetBytes g m)) old) old
+
+-- ---- document 01's number and values of each case
+
+-- 0 where the sheet is written
+unfoldable pub numberOfWritten : Written → ℕ
+numberOfWritten (Written.Length size) = 0
+numberOfWritten (Written.Refused r) = numberOf r
+
+-- how many bytes are written
+unfoldable pub lengthOfWritten : Written → ℕ
+lengthOfWritten (Written.Length size) = size
+lengthOfWritten (Written.Refused r) = 0

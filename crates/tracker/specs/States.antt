@@ -21,7 +21,7 @@ use Rattle.rules.specs.Sound.{Inside, Sound, clear-sound, fits-inside, after-in
 use Rattle.rules.specs.Entries.{moved-clear, moved-after}
 use Rattle.tracker.specs.declared.Track.{Track}
 use Rattle.tracker.specs.declared.Tracked.{Tracked}
-use Rattle.tracker.specs.Tracker.{pending, above, pool, meets, served, begin, rest, startLines, idleLines, stepLines, trackedOf, theStart, theIdle, theStep, numberAnswered}
+use Rattle.tracker.specs.Tracker.{pending, above, pool, meets, served, begin, rest, startLines, idleLines, stepLines, trackedOf, theStart, theIdle, theStep, numberOfTracked}
 use Rattle.tracker.specs.Paper.{State}
 use Rattle.tracker.specs.Laws.{clear-graph, clear-fits, rank-some, rank-most, rank-is, start-at, Idled, idle-at, Stepped, step-at}
 
@@ -116,23 +116,23 @@ unfolding ascends numberOf
 step-ascends g t e = refl
 
 -- and the number of the answer is the table's
-tracked-number : (v : Verdict) (before next : Track) → numberAnswered (trackedOf v before next) ≡ number v
-unfolding numberAnswered trackedOf number
+tracked-number : (v : Verdict) (before next : Track) → numberOfTracked (trackedOf v before next) ≡ number v
+unfolding numberOfTracked trackedOf number
 tracked-number Verdict.Clear before next = refl
 tracked-number (Verdict.Refused r) before next = either (leb 11 (numberOf r))
   where
-    either : (b : Bool) → numberAnswered (cond b (Tracked.Stays r before) (Tracked.Refused r)) ≡ numberOf r
+    either : (b : Bool) → numberOfTracked (cond b (Tracked.Stays r before) (Tracked.Refused r)) ≡ numberOf r
     either true = refl
     either false = refl
 
-pub start-number : (g : Graph) (m : Marking) → numberAnswered (theStart g m) ≡ number (first (startLines g m))
+pub start-number : (g : Graph) (m : Marking) → numberOfTracked (theStart g m) ≡ number (first (startLines g m))
 unfolding theStart
 start-number g m = tracked-number (first (startLines g m)) (begin m) (begin m)
 
-pub idle-number : (g : Graph) (t : Track) → numberAnswered (theIdle g t) ≡ number (first (idleLines g t))
+pub idle-number : (g : Graph) (t : Track) → numberOfTracked (theIdle g t) ≡ number (first (idleLines g t))
 unfolding theIdle
 idle-number g t = tracked-number (first (idleLines g t)) t (rest t)
 
-pub step-number : (g : Graph) (t : Track) (e : Entry) → numberAnswered (theStep g t e) ≡ number (first (stepLines g t e))
+pub step-number : (g : Graph) (t : Track) (e : Entry) → numberOfTracked (theStep g t e) ≡ number (first (stepLines g t e))
 unfolding theStep
 step-number g t e = tracked-number (first (stepLines g t e)) t _

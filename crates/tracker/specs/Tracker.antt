@@ -10,7 +10,7 @@ use Rattle.rules.specs.declared.Rank.{Rank}
 use Rattle.rules.specs.declared.Entry.{Entry}
 use Rattle.rules.specs.declared.Verdict.{Verdict}
 use Rattle.rules.specs.declared.Refusal.the-variants.{NoRank}
-use Rattle.rules.specs.First.{Line, first, numberOf}
+use Rattle.rules.specs.First.{Line, first, numberOf, stepOf}
 use Rattle.rules.specs.Graph.{graphLines, within1to}
 use Rattle.rules.specs.Move.{rowOf, after, isFinished, markingLines, entryLines}
 use Rattle.tracker.specs.declared.Track.{Track}
@@ -103,8 +103,16 @@ unfoldable pub theStep : Graph → Track → Entry → Tracked
 theStep g t e =
     trackedOf (first (stepLines g t e)) t (trackAfter t (after (rowOf g (e .person) (e .step .0)) (t .marking) (e .step .0)) (e .step .0))
 
--- the number of an answer: 0 where there is a state after
-unfoldable pub numberAnswered : Tracked → ℕ
-numberAnswered (Tracked.At t) = 0
-numberAnswered (Tracked.Refused r) = numberOf r
-numberAnswered (Tracked.Stays r t) = numberOf r
+-- ---- document 01's number and values of each case
+
+-- 0 where there is a state after
+unfoldable pub numberOfTracked : Tracked → ℕ
+numberOfTracked (Tracked.At t) = 0
+numberOfTracked (Tracked.Refused r) = numberOf r
+numberOfTracked (Tracked.Stays r t) = numberOf r
+
+-- the waiting step of 15
+unfoldable pub stepOfTracked : Tracked → ℕ
+stepOfTracked (Tracked.At t) = 0
+stepOfTracked (Tracked.Refused r) = stepOf r
+stepOfTracked (Tracked.Stays r t) = stepOf r
