@@ -32,8 +32,8 @@ use Rattle.records.specs.declared.Record.{Record}
 use Rattle.records.specs.Records.{applies, gives, acts, identity, impossible, compose, sorted, tidy, join}
 use Rattle.records.specs.Laws.{acts-join, acts-tidy, acts-compose, acts-identity, acts-impossible, gives-identity, gives-compose, gives-again}
 use Rattle.records.specs.WellFormed.{Bounded, WellFormed, compose-bounded, identity-well-formed, tidy-well-formed, join-well-formed}
-use Rattle.records.specs.Unique.{unique}
-use Rattle.records.specs.Theorems.{then-none, then-again, then-same, join-assoc, join-identity-left}
+use Rattle.exact.specs.Unique.{unique}
+use Rattle.exact.specs.Theorems.{then-none, then-again, then-same, join-assoc, join-identity-left}
 use Rattle.folding.specs.Fold.{rowAt, stepRecord, possible, entryRecord, foldOf, movedTo, passes}
 use Rattle.folding.specs.Effect.{afterAll, effect}
 use Rattle.folding.specs.Possible.{possible-serves}

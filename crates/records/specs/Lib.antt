@@ -3,7 +3,5 @@ pub mod Answers
 pub mod Bytes
 pub mod Laws
 pub mod WellFormed
-pub mod Unique
-pub mod Theorems
 pub mod Answered
 pub mod Spelling

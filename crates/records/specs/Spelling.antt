@@ -3,7 +3,6 @@ use Prim.Native.Nat.{ℕ, zero, suc, _+_, _-_, _*_, _%_, _^_, _≤_, _<_}
 use mathlib.Core.Path.{_≡_, refl, sym, ap, ap₂, _∙_, subst}
 use mathlib.Core.List.{List, [], _∷_, _++_, append-assoc}
 use mathlib.Core.Bool.{Bool, true, false, _&&_, cond}
-use mathlib.Core.Logic.{_↔_}
 use native.Mathlib.Omega.{arith}
 use native.Mathlib.Nat.{lt-of-lt-of-le}
 use lib.ListN.{length, getD, drop, length-drop, take-append-drop}
@@ -20,8 +19,6 @@ use Rattle.records.specs.declared.Record.{Record}
 use Rattle.records.specs.declared.Recorded.{Recorded}
 use Rattle.records.specs.Records.{setsOf, wellFormed}
 use Rattle.records.specs.WellFormed.{Bounded, well-formed}
-use Rattle.records.specs.Unique.{Alike}
-use Rattle.records.specs.Theorems.{equal-exactly}
 use Rattle.records.specs.Bytes.{flag, spelt, recordBytes, recordAt, readable, theReading}
 use Rattle.records.specs.Answers.{recordedOf}
 use Rattle.records.specs.Answered.{counts-most}
@@ -136,13 +133,6 @@ bounded-64 n r h b =
   where
     wide : {x : ℕ} → x < 2 ^ n → x < 2 ^ 64
     wide l = lt-of-lt-of-le l (pow-mono h)
-
--- two well-formed records have equal bytes exactly if they act alike at every marking
-pub bytes-exactly : (n : ℕ) (a b : Record) → n ≤ 64 → wellFormed n a ≡ true → wellFormed n b ≡ true → (recordBytes a ≡ recordBytes b) ↔ Alike n a b
-bytes-exactly n a b h p q = (
-  λ e. equal-exactly n a b p q .0 (bytes-same a b (bounded-64 n a h (well-formed n a p .bounded)) (bounded-64 n b h (well-formed n b q .bounded)) e),
-  λ l. ap recordBytes (equal-exactly n a b p q .1 l),
-)
 
 -- ---- writing what was read
 

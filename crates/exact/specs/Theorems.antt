@@ -1,16 +1,18 @@
 -- The theorems on the join: it is associative, the identity is neutral, and three copies are two. Each follows from what a join
 -- does and from the uniqueness of records. Assumes nothing.
-use Prim.Native.Nat.{ℕ}
+use Prim.Native.Nat.{ℕ, _≤_}
 use mathlib.Core.Path.{_≡_, refl, sym, ap, _∙_, fun-ext}
 use mathlib.Core.Logic.{_↔_}
 use mathlib.Core.Bool.{Bool, true, false, cond}
 use mathlib.Core.Option.{Option, none, some, bind}
 use Rattle.rules.specs.declared.Marking.{Marking}
 use Rattle.records.specs.declared.Record.{Record}
 use Rattle.records.specs.Records.{applies, gives, acts, wellFormed, join, identity}
 use Rattle.records.specs.Laws.{acts-join, acts-identity, gives-again}
 use Rattle.records.specs.WellFormed.{WellFormed, well-formed, of-well-formed, join-well-formed, identity-well-formed}
-use Rattle.records.specs.Unique.{Alike, unique}
+use Rattle.records.specs.Bytes.{recordBytes}
+use Rattle.records.specs.Spelling.{bytes-same, bounded-64}
+use Rattle.exact.specs.Unique.{Alike, unique}
 
 -- ---- equal exactly if alike
 
@@ -79,3 +81,10 @@ three-two n r w =
     ∙ then-same (acts r m) (acts (join r r)) (λ x. bind (acts r x) (acts r)) (acts-join r r)
     ∙ thrice r m
     ∙ sym (acts-join r r m))
+
+-- two well-formed records have equal bytes exactly if they act alike at every marking
+pub bytes-exactly : (n : ℕ) (a b : Record) → n ≤ 64 → wellFormed n a ≡ true → wellFormed n b ≡ true → (recordBytes a ≡ recordBytes b) ↔ Alike n a b
+bytes-exactly n a b h p q = (
+  λ e. equal-exactly n a b p q .0 (bytes-same a b (bounded-64 n a h (well-formed n a p .bounded)) (bounded-64 n b h (well-formed n b q .bounded)) e),
+  λ l. ap recordBytes (equal-exactly n a b p q .1 l),
+)

@@ -22,12 +22,12 @@ use Rattle.rules.specs.Move.{isFinished}
 use Rattle.rules.specs.Laws.{clear-counts}
 use Rattle.rules.specs.Sound.{Inside, inside-fits}
 use Rattle.rules.specs.Entries.{moved-after}
 use Rattle.tracker.specs.declared.Track.{Track}
 use Rattle.tracker.specs.declared.Tracked.{Tracked}
 use Rattle.tracker.specs.Tracker.{isRank, begin, rest, pending, above, pool, meets, served, trackAfter, startLines, theStart, theIdle, theStep}
-use Rattle.tracker.specs.Paper.{State, Initial, Tau, Transition, those, rank, min, _∈_, rankOfMin, j′, i′}
+use Rattle.automaton.specs.Paper.{State, Initial, Tau, Transition, those, rank, min, _∈_, rankOfMin, j′, i′}
 use Rattle.tracker.specs.Laws.{above-members, sound-inside, start-clear, idle-clear, idle-at, Stepped, step-at, at-step, rank-is}
-use Rattle.tracker.specs.States.{start-is}
+use Rattle.automaton.specs.States.{start-is}
 
 -- ---- H is Mᵣ
 

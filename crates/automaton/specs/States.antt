@@ -19,11 +19,11 @@ use Rattle.rules.specs.Move.{isFinished, known, entryLines}
 use Rattle.rules.specs.Laws.{ascends, clear-head, clear-front, clear-back}
 use Rattle.rules.specs.Sound.{Inside, Sound, clear-sound, fits-inside, after-inside}
 use Rattle.rules.specs.Entries.{moved-clear, moved-after}
 use Rattle.tracker.specs.declared.Track.{Track}
 use Rattle.tracker.specs.declared.Tracked.{Tracked}
 use Rattle.tracker.specs.Tracker.{pending, above, pool, meets, served, begin, rest, startLines, idleLines, stepLines, trackedOf, theStart, theIdle, theStep, numberOfTracked}
-use Rattle.tracker.specs.Paper.{State}
+use Rattle.automaton.specs.Paper.{State}
 use Rattle.tracker.specs.Laws.{clear-graph, clear-fits, rank-some, rank-most, rank-is, start-at, Idled, idle-at, Stepped, step-at}
 
 -- ---- start and idle move
 
