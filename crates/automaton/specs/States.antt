@@ -14,14 +14,15 @@ use Rattle.rules.specs.declared.Graph.{Graph}
 use Rattle.rules.specs.declared.Marking.{Marking}
 use Rattle.rules.specs.declared.Entry.{Entry}
 use Rattle.rules.specs.declared.Verdict.{Verdict}
-use Rattle.rules.specs.First.{first, number, numberOf}
+use Rattle.rules.specs.declared.Refusal.{Refusal}
+use Rattle.rules.specs.First.{first, number, numberOf, stepOf}
 use Rattle.rules.specs.Move.{isFinished, known, entryLines}
 use Rattle.rules.specs.Laws.{ascends, clear-head, clear-front, clear-back}
 use Rattle.rules.specs.Sound.{Inside, Sound, clear-sound, fits-inside, after-inside}
 use Rattle.rules.specs.Entries.{moved-clear, moved-after}
 use Rattle.tracker.specs.declared.Track.{Track}
 use Rattle.tracker.specs.declared.Tracked.{Tracked}
-use Rattle.tracker.specs.Tracker.{pending, above, pool, meets, served, begin, rest, startLines, idleLines, stepLines, trackedOf, theStart, theIdle, theStep, numberOfTracked}
+use Rattle.tracker.specs.Tracker.{pending, above, pool, meets, served, begin, rest, startLines, idleLines, stepLines, trackedOf, theStart, theIdle, theStep, numberOfTracked, stepOfTracked}
 use Rattle.automaton.specs.Paper.{State}
 use Rattle.tracker.specs.Laws.{clear-graph, clear-fits, rank-some, rank-most, rank-is, start-at, Idled, idle-at, Stepped, step-at}
 
@@ -136,3 +137,19 @@ idle-number g t = tracked-number (first (idleLines g t)) t (rest t)
 pub step-number : (g : Graph) (t : Track) (e : Entry) → numberOfTracked (theStep g t e) ≡ number (first (stepLines g t e))
 unfolding theStep
 step-number g t e = tracked-number (first (stepLines g t e)) t _
+
+-- a refused step tells the step that the refusal waits for
+refused-waits : (r : Refusal) (before next : Track) → stepOfTracked (trackedOf (Verdict.Refused r) before next) ≡ stepOf r
+unfolding stepOfTracked trackedOf
+refused-waits r before next = either (leb 11 (numberOf r))
+  where
+    either : (b : Bool) → stepOfTracked (cond b (Tracked.Stays r before) (Tracked.Refused r)) ≡ stepOf r
+    either true = refl
+    either false = refl
+
+tracked-waits : (v : Verdict) (r : Refusal) (before next : Track) → v ≡ Verdict.Refused r → stepOfTracked (trackedOf v before next) ≡ stepOf r
+tracked-waits v r before next e = ap (λ (w : Verdict). stepOfTracked (trackedOf w before next)) e ∙ refused-waits r before next
+
+pub step-waits : (g : Graph) (t : Track) (e : Entry) (r : Refusal) → first (stepLines g t e) ≡ Verdict.Refused r → stepOfTracked (theStep g t e) ≡ stepOf r
+unfolding theStep
+step-waits g t e r refused = tracked-waits (first (stepLines g t e)) r t _ refused

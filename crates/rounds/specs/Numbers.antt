@@ -15,7 +15,7 @@ use Rattle.rules.specs.First.{Line, first, number, numberOf}
 use Rattle.rules.specs.Graph.{countsFit, setsFit, kindsApart}
 use Rattle.rules.specs.Move.{markingFits}
 use Rattle.rules.specs.Laws.{holds, ascends, first-holds, first-lowest}
-use Rattle.sheet.specs.Sheet.{graphOf, layoutFits, countsRight, bodiesMatch, setsInside, arrowsRight, readLines, readVerdict, sheetBytes, writeLines, writeVerdict}
+use Rattle.sheet.specs.Sheet.{graphOf, layoutFits, countsRight, bodiesMatch, setsInside, arrowsRight, readLines, readVerdict, sheetBytes, writeLines, writeVerdict, writtenOf, theWritten, numberOfWritten, lengthOfWritten}
 use Rattle.sets.specs.Truth.{or-false}
 
 -- ---- any table whose numbers go up
@@ -109,6 +109,11 @@ write-up : (g : Graph) (m : Marking) (room : ℕ) → ascends 0 (writeLines g m 
 unfolding ascends numberOf
 write-up g m room = refl
 
+written-of : (v : Verdict) (size : ℕ) → numberOfWritten (writtenOf v size) ≡ number v
+unfolding numberOfWritten writtenOf number
+written-of Verdict.Clear size = refl
+written-of (Verdict.Refused r) size = refl
+
 module _ (g : Graph) (m : Marking) (room : ℕ) where
   pub write-exactly : (k : ℕ) → 0 < k → (number (writeVerdict g m room) ≡ k) ↔ Lowest k (writeLines g m room)
   unfolding writeVerdict
@@ -133,3 +138,11 @@ module _ (g : Graph) (m : Marking) (room : ℕ) where
   pub write-18 : holds 18 (writeLines g m room) ≡ ltb room (length (sheetBytes g m))
   unfolding holds numberOf
   write-18 = or-false (ltb room (length (sheetBytes g m)))
+
+  -- the number of the answer is the table's, and the length where nothing is against it is that of the sheet
+  pub written-number : numberOfWritten (theWritten g m room) ≡ number (writeVerdict g m room)
+  written-number = written-of (writeVerdict g m room) (length (sheetBytes g m))
+
+  pub written-length : writeVerdict g m room ≡ Verdict.Clear → lengthOfWritten (theWritten g m room) ≡ length (sheetBytes g m)
+  unfolding lengthOfWritten writtenOf
+  written-length e = ap (λ (v : Verdict). lengthOfWritten (writtenOf v (length (sheetBytes g m)))) e
