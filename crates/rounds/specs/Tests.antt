@@ -12,7 +12,7 @@ use lib.Dec.{ltb}
 use borrow.Author.Tests.{lt-ltb, le-ltb, ltb-true, le-leb, eq-eqb}
 use Rattle.sets.specs.Sets.{has, within}
 use Rattle.sets.specs.Truth.{and-intro, is-false}
-use Rattle.sets.specs.Laws.{has-zero, has-above, lt-of-members, every-at, every-of}
+use Rattle.sets.specs.Laws.{has-zero, member-below, lt-of-members, every-at, every-of}
 use Rattle.rules.specs.declared.Marking.{Marking}
 use Rattle.rules.specs.Graph.{row, keeps, countsFit}
 use Rattle.rules.specs.Move.{markingFits}
@@ -48,11 +48,7 @@ abbrev pub Names : ℕ → ℕ → Type 0
 Names n x = (s : ℕ) → has x s ≡ true → s < n
 
 small-names : (n x : ℕ) → x < 2 ^ n → Names n x
-small-names n x h s e = go (decLt s n)
-  where
-    go : Dec (s < n) → s < n
-    go (yes l) = l
-    go (no l) = absurd (true≢false (sym e ∙ has-above n x s h (omega arith)))
+small-names n x h s e = member-below n x s h e
 
 names-small : (n x : ℕ) → Names n x → x < 2 ^ n
 names-small n x names = lt-of-members n x (λ s h. is-false (has x s) (λ e. let l : s < n = names s e in let z : ⊥ = omega arith in z))
