@@ -1,5 +1,5 @@
 // The arrows of a sheet: three bytes each, kind, from, to, strictly ascending. They are read into one table of 256 rows, a row for each
-// kind and step, and written from four tables of 64.
+// kind and step, and written from four tables of 64 that are parts of a block.
 ghost use mathlib.Core.Path.{_≡_};
 ghost use Prim.Native.Nat.{ℕ, _+_, _*_, _%_, _<_, _≤_};
 ghost use lib.ListN.{length};
@@ -39,8 +39,8 @@ fn many(x: u64) -> usize
 }
 
 // How many arrows come from the first n steps?
-pub fn count(n: u8, rows: &[u64; 64]) -> usize
-    requires { ⌜ n ≤ 64 ⌝ }
+pub fn count(n: u8, rows: &[u64]) -> usize
+    requires { ⌜ (n ≤ 64) × (n ≤ length (now rows)) ⌝ }
     ensures { λ r. ⌜ r ≡ countOf n (row (now (rows .entry))) ⌝ }
 {
     let mut found = 0;
@@ -69,8 +69,8 @@ fn spill(x: u64, b: u8, table: &mut [u64; 64])
 }
 
 // The table turned: b is in row a of the answer exactly if a is in row b.
-pub fn turned(n: u8, rows: &[u64; 64]) -> [u64; 64]
-    requires { ⌜ n ≤ 64 ⌝ }
+pub fn turned(n: u8, rows: &[u64]) -> [u64; 64]
+    requires { ⌜ (n ≤ 64) × (n ≤ length (now rows)) ⌝ }
     ensures { λ r. ⌜ r ≡ turned n (row (now (rows .entry))) ⌝ }
 {
     let mut table = [0u64; 64];
@@ -102,8 +102,8 @@ fn write_row(k: u8, a: u8, x: u64, room: &mut [u8], at: usize) -> usize
 }
 
 // Writes the arrows of kind k that come from the first n steps, and gives the place after them.
-pub fn write(k: u8, n: u8, rows: &[u64; 64], room: &mut [u8], at: usize) -> usize
-    requires { ⌜ (n ≤ 64) × (at + 3 * countOf n (row (now rows)) ≤ length (now room)) ⌝ }
+pub fn write(k: u8, n: u8, rows: &[u64], room: &mut [u8], at: usize) -> usize
+    requires { ⌜ (n ≤ 64) × (n ≤ length (now rows)) × (at + 3 * countOf n (row (now rows)) ≤ length (now room)) ⌝ }
     ensures { λ r. ⌜ Spliced (spelt (kindArrows k n (row (now (rows .entry))))) at (now (room .entry)) (now (room .exit)) r ⌝ }
 {
     let mut to = at;

@@ -12,7 +12,7 @@ use borrow.Author.Tests.{lt-ltb, le-ltb, le-leb, eq-eqb, eqb-true, eqb-false}
 use Rattle.sets.specs.Sets.{has, single, union, meet, minus, empty, full, lowest}
 use Rattle.sets.specs.Truth.{and-left, and-intro, same-truth}
 use Rattle.sets.specs.Laws.{ext, has-minus, has-union, has-single, has-above, meet-lt, minus-lt, lowest-has, lowest-wider, has-those}
-use Rattle.rules.specs.declared.Graph.{Graph}
+use Rattle.rules.specs.Graph.{Graph}
 use Rattle.rules.specs.declared.Marking.{Marking}
 use Rattle.rules.specs.declared.Entry.{Entry}
 use Rattle.rules.specs.declared.Verdict.{Verdict}

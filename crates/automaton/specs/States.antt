@@ -10,7 +10,7 @@ use borrow.Author.Tests.{eqb-false, ltb-true, not-false, not-true}
 use Rattle.sets.specs.Sets.{empty, full, lowest}
 use Rattle.sets.specs.Truth.{and-left, and-right}
 use Rattle.sets.specs.Laws.{meet-lt, minus-lt, lowest-wider, lowest-below}
-use Rattle.rules.specs.declared.Graph.{Graph}
+use Rattle.rules.specs.Graph.{Graph}
 use Rattle.rules.specs.declared.Marking.{Marking}
 use Rattle.rules.specs.declared.Entry.{Entry}
 use Rattle.rules.specs.declared.Verdict.{Verdict}

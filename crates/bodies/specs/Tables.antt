@@ -9,6 +9,7 @@ use native.Mathlib.Decide.{decLt}
 use lib.ListN.{length, set, length-append, List·getD-append, List·getD-eq-default, drop-of-length-le}
 use lib.Seq.{sets, sets-eq, getD-at, ext-getD}
 use Rattle.rules.specs.Graph.{row}
+use Rattle.numbers.specs.Numbers.{Spliced}
 use Rattle.numbers.specs.Laws.{sets-append}
 
 -- the rows f 0, f 1, .. up to the k-th
@@ -45,18 +46,18 @@ pub tabled-rows : (k : ℕ) (t : List ℕ) → length t ≡ k → tabled k (row 
 tabled-rows k t e =
     ext-getD 0 (tabled k (row t)) t (length-tabled k (row t) ∙ sym e) (λ i h. row-tabled k (row t) i (let n : length (tabled k (row t)) ≡ k = length-tabled k (row t) in omega arith))
 
--- ---- the loop that fills an array from the front
+-- ---- the loop that fills a block from `at` on
 
-pub fill-more : (l : List ℕ) (i : ℕ) (f : ℕ → ℕ) → set (sets l 0 (tabled i f)) i (f i) ≡ sets l 0 (tabled (i + 1) f)
+pub fill-more : (l : List ℕ) (at i : ℕ) (f : ℕ → ℕ) → set (sets l at (tabled i f)) (at + i) (f i) ≡ sets l at (tabled (i + 1) f)
 unfolding tabled
-fill-more l i f =
-    ap (λ (k : ℕ). set (sets l 0 (tabled i f)) k (f i)) (let n : length (tabled i f) ≡ i = length-tabled i f in let z : i ≡ 0 + length (tabled i f) = omega arith in z)
-    ∙ sets-append (tabled i f) (f i ∷ []) l 0
-    ∙ ap (λ (k : ℕ). sets l 0 (tabled k f)) (sym (add-one i))
+fill-more l at i f =
+    ap (λ (k : ℕ). set (sets l at (tabled i f)) k (f i)) (let n : length (tabled i f) ≡ i = length-tabled i f in let z : at + i ≡ at + length (tabled i f) = omega arith in z)
+    ∙ sets-append (tabled i f) (f i ∷ []) l at
+    ∙ ap (λ (k : ℕ). sets l at (tabled k f)) (sym (add-one i))
 
-pub fill-done : (l : List ℕ) (k : ℕ) (f : ℕ → ℕ) → length l ≡ k → sets l 0 (tabled k f) ≡ tabled k f
-fill-done l k f e =
-    let n : length (tabled k f) ≡ k = length-tabled k f in
-    sets-eq (tabled k f) l 0 (omega arith)
-    ∙ ap (λ (r : List ℕ). tabled k f ++ r) (drop-of-length-le l (let z : length l ≤ 0 + length (tabled k f) = omega arith in z))
-    ∙ append-nil (tabled k f)
+pub fill-done : (l new : List ℕ) (at i k : ℕ) (f : ℕ → ℕ) → i ≡ k → new ≡ sets l at (tabled i f) → Spliced (tabled k f) at l new (at + k)
+fill-done l new at i k f e h =
+    record {
+      next = let n : length (tabled k f) ≡ k = length-tabled k f in let z : at + k ≡ at + length (tabled k f) = omega arith in z;
+      stored = h ∙ ap (λ (j : ℕ). sets l at (tabled j f)) e;
+    }

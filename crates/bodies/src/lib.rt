@@ -2,16 +2,14 @@
 ghost use mathlib.Core.Path.{_≡_};
 ghost use Prim.Native.Nat.{ℕ, _+_, _*_, _%_, _<_, _≤_};
 ghost use lib.ListN.{length};
-ghost use Rattle.rules.specs.Graph.{row};
 ghost use Rattle.numbers.specs.Numbers.{Spliced};
-ghost use Rattle.bodies.specs.Tables.{tabled};
-ghost use Rattle.bodies.specs.Bodies.{countsBody, countsIn, markingBody, markingIn, rolesBody, setAt, setsIn, roleSetsFit};
+ghost use Rattle.bodies.specs.Bodies.{countsBody, countsIn, markingBody, markingIn, rolesBody, setAt, setsIn, roleSetsFit, quarter};
 use rules::Marking;
 
 pub struct Counts {
-    pub steps: u8,
-    pub people: u8,
-    pub roles: u8,
+    pub steps: u64,
+    pub people: u64,
+    pub roles: u64,
 }
 
 pub fn read_counts(body: &[u8]) -> Counts
@@ -19,9 +17,9 @@ pub fn read_counts(body: &[u8]) -> Counts
     ensures { λ r. ⌜ r ≡ countsIn (now (body .entry)) ⌝ }
 {
     Counts {
-        steps: body[0],
-        people: body[1],
-        roles: body[2],
+        steps: body[0] as u64,
+        people: body[1] as u64,
+        roles: body[2] as u64,
     }
 }
 
@@ -50,7 +48,7 @@ fn role_set(body: &[u8], i: usize) -> u16
 }
 
 // Does each role set of the body name only roles that there are?
-pub fn role_sets_fit(body: &[u8], roles: u8) -> bool
+pub fn role_sets_fit(body: &[u8], roles: u64) -> bool
     requires { ⌜ (roles ≤ 64) × (length (now body) < 65536) × (length (now body) % 2 ≡ 0) ⌝ }
     ensures { λ r. ⌜ r ≡ roleSetsFit roles (now (body .entry)) ⌝ }
 {
@@ -64,37 +62,39 @@ pub fn role_sets_fit(body: &[u8], roles: u8) -> bool
     sets::within(roles, found as u64)
 }
 
-// Fills the table with the role sets of the body, and then empty ones.
-pub fn read_roles(body: &[u8], table: &mut [u16])
-    requires { ⌜ (length (now table) ≤ 64) × (length (now body) % 2 ≡ 0) ⌝ }
-    ensures { λ r. ⌜ now (table .exit) ≡ setsIn (length (now (table .entry))) (now (body .entry)) ⌝ }
+// Puts `count` role sets into the block from word `at` on, those of the body and then empty ones, and gives the place after them.
+pub fn read_roles(body: &[u8], count: usize, block: &mut [u64], at: usize) -> usize
+    requires { ⌜ (count ≤ 64) × (length (now body) % 2 ≡ 0) × (at + count ≤ length (now block)) ⌝ }
+    ensures { λ r. ⌜ Spliced (setsIn count (now (body .entry))) at (now (block .entry)) (now (block .exit)) r ⌝ }
 {
     let mut i = 0;
-    while i < table.len() {
-        table[i] = role_set(body, i);
+    while i < count {
+        block[at + i] = role_set(body, i) as u64;
         i += 1;
     }
+    at + count
 }
 
-// Fills the table with the rows of another from row `from` on.
-pub fn read_rows(all: &[u64; 256], from: usize, table: &mut [u64])
-    requires { ⌜ from + length (now table) ≤ 256 ⌝ }
-    ensures { λ r. ⌜ now (table .exit) ≡ tabled (length (now (table .entry))) (λ i. row (now (all .entry)) (from + i)) ⌝ }
+// Puts the 64 rows of the table from row `from` on into the block from word `at` on, and gives the place after them.
+pub fn read_rows(all: &[u64; 256], from: usize, block: &mut [u64], at: usize) -> usize
+    requires { ⌜ (from ≤ 192) × (at + 64 ≤ length (now block)) ⌝ }
+    ensures { λ r. ⌜ Spliced (quarter (now (all .entry)) from) at (now (block .entry)) (now (block .exit)) r ⌝ }
 {
     let mut i = 0;
-    while i < table.len() {
-        table[i] = all[from + i];
+    while i < 64 {
+        block[at + i] = all[from + i];
         i += 1;
     }
+    at + 64
 }
 
-pub fn write_counts(steps: u8, people: u8, roles: u8, room: &mut [u8], at: usize) -> usize
+pub fn write_counts(steps: u64, people: u64, roles: u64, room: &mut [u8], at: usize) -> usize
     requires { ⌜ at + 3 ≤ length (now room) ⌝ }
     ensures { λ r. ⌜ Spliced (countsBody steps people roles) at (now (room .entry)) (now (room .exit)) r ⌝ }
 {
-    let a = numbers::put(steps as u64, 1, room, at);
-    let b = numbers::put(people as u64, 1, room, a);
-    numbers::put(roles as u64, 1, room, b)
+    let a = numbers::put(steps, 1, room, at);
+    let b = numbers::put(people, 1, room, a);
+    numbers::put(roles, 1, room, b)
 }
 
 pub fn write_marking(m: Marking, room: &mut [u8], at: usize) -> usize
@@ -106,14 +106,14 @@ pub fn write_marking(m: Marking, room: &mut [u8], at: usize) -> usize
     numbers::put(m.included, 8, room, b)
 }
 
-pub fn write_roles(count: usize, table: &[u16], room: &mut [u8], at: usize) -> usize
+pub fn write_roles(count: usize, table: &[u64], room: &mut [u8], at: usize) -> usize
     requires { ⌜ (count ≤ 64) × (count ≤ length (now table)) × (at + 2 * count ≤ length (now room)) ⌝ }
     ensures { λ r. ⌜ Spliced (rolesBody count (now (table .entry))) at (now (room .entry)) (now (room .exit)) r ⌝ }
 {
     let mut to = at;
     let mut i = 0;
     while i < count {
-        to = numbers::put(table[i] as u64, 2, room, to);
+        to = numbers::put(table[i], 2, room, to);
         i += 1;
     }
     to

@@ -1,6 +1,6 @@
 -- What a list of entries does, allowed or not. No promise speaks of it; laps are decided through it.
 use mathlib.Core.List.{List, [], _∷_}
-use Rattle.rules.specs.declared.Graph.{Graph}
+use Rattle.rules.specs.Graph.{Graph}
 use Rattle.rules.specs.declared.Marking.{Marking}
 use Rattle.rules.specs.declared.Entry.{Entry}
 use Rattle.rules.specs.Move.{after}

@@ -14,7 +14,7 @@ use Rattle.sets.specs.Sets.{has, single, union, meet, minus, empty, subset}
 use Rattle.sets.specs.Truth.{and-left, and-right, same-truth}
 use Rattle.sets.specs.Laws.{has-single, subset-members, members-subset, single-lt, minus-lt}
 use Rattle.sets.specs.Digits.{at-digit, as-sets}
-use Rattle.rules.specs.declared.Graph.{Graph}
+use Rattle.rules.specs.Graph.{Graph}
 use Rattle.rules.specs.declared.inner.Row.{Row}
 use Rattle.rules.specs.declared.Marking.{Marking}
 use Rattle.rules.specs.declared.Entry.{Entry}

@@ -5,7 +5,7 @@ use mathlib.Core.Bool.{Bool, true, _&&_}
 use borrow.Author.Tests.{lt-ltb, not-false}
 use Rattle.sets.specs.Truth.{and-left, and-right, and-intro, same-truth}
 use Rattle.sets.specs.Laws.{member-below}
-use Rattle.rules.specs.declared.Graph.{Graph}
+use Rattle.rules.specs.Graph.{Graph}
 use Rattle.rules.specs.declared.Entry.{Entry}
 use Rattle.rules.specs.declared.Verdict.{Verdict}
 use Rattle.rules.specs.Graph.{keeps, arrowsFit, setsFit, graphVerdict, rolesHeld}

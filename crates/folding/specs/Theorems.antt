@@ -8,7 +8,7 @@ use mathlib.Core.Option.{Option, none, some, bind}
 use native.Mathlib.Omega.{arith}
 use borrow.Author.Tests.{le-leb}
 use Rattle.sets.specs.Truth.{and-intro}
-use Rattle.rules.specs.declared.Graph.{Graph}
+use Rattle.rules.specs.Graph.{Graph}
 use Rattle.rules.specs.declared.Marking.{Marking}
 use Rattle.rules.specs.declared.Entry.{Entry}
 use Rattle.rules.specs.declared.Refusal.{Refusal}

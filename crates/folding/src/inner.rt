@@ -1,19 +1,29 @@
-// What one step needs and does, on the numbers of its row.
+// What one step, one entry and a list of entries need and do.
 ghost use mathlib.Core.Path.{_≡_};
-ghost use Prim.Native.Nat.{ℕ, _<_};
+ghost use Prim.Native.Nat.{ℕ, _%_, _<_};
+ghost use lib.ListN.{length};
 ghost use mathlib.Core.Bool.{_&&_};
 ghost use Rattle.sets.specs.Sets.{has};
-ghost use Rattle.folding.specs.Fold.{stepRecord};
-use journal::quick::has_role;
+ghost use Rattle.rules.specs.Graph.{graphOf, graphVerdict};
+ghost use Rattle.rules.specs.declared.Verdict.{Verdict};
+ghost use Rattle.journal.specs.Journal.{entries};
+ghost use Rattle.folding.specs.Fold.{stepRecord, entryRecord, foldOf};
+use journal::inner::entry_at;
 use records::Record;
+use records::inner::NEVER;
+use records::inner::composed;
+use records::inner::tidied;
+use rules::Entry;
+use rules::Job;
 use rules::inner::Row;
+use rules::inner::row_at;
 
 // May the entry's role take the step, if its person holds it?
 pub fn admits(w: Row, role: u8) -> bool
     requires { ⌜ role < 16 ⌝ }
     ensures { λ b. ⌜ b ≡ (has (w .held) role && has (w .allows) role) ⌝ }
 {
-    has_role(w.held & w.allows, role)
+    sets::has(w.held & w.allows, role)
 }
 
 // What step s needs and does.
@@ -35,6 +45,31 @@ pub fn step_record(w: Row, s: u8) -> Record
     }
 }
 
+// What an entry needs and does, with nothing tidied, on a graph with nothing against it: there only a known person holds a role, and
+// only a known step has one, so that the counts need not be looked at.
+pub fn entry_record(g: &Job, e: Entry) -> Record
+    requires { ⌜ graphVerdict (graphOf (now g)) ≡ Verdict.Clear ⌝ }
+    ensures { λ r. ⌜ r ≡ entryRecord (graphOf (now (g .entry))) e ⌝ }
+{
+    let p = e.person;
+    let s = e.step.0;
+    let role = e.role;
+    if 16 <= p {
+        return NEVER;
+    }
+    if 64 <= s {
+        return NEVER;
+    }
+    if 16 <= role {
+        return NEVER;
+    }
+    let w = row_at(g, p, s);
+    if !admits(w, role) {
+        return NEVER;
+    }
+    step_record(w, s)
+}
+
 // The same record, said with one set less: a loop that carries it has one less to keep.
 pub fn cleared(r: Record) -> Record
     requires { ⌜ r .dueclear ≡ r .done ⌝ }
@@ -51,4 +86,26 @@ pub fn cleared(r: Record) -> Record
         inset: r.inset,
         inclear: r.inclear,
     }
+}
+
+// The entries, on a graph and a journal that are as they should be.
+pub fn fold_entries<'a, 'b>(g: &'a Job, j: &'b [u8]) -> Record
+    requires { ⌜ (graphVerdict (graphOf (now g)) ≡ Verdict.Clear) × (length (now j) % 3 ≡ 0) ⌝ }
+    ensures { λ t. ⌜ t ≡ foldOf (graphOf (now (g .entry))) (entries (now (j .entry))) ⌝ }
+{
+    let count = j.len() / 3;
+    let mut r = Record::IDENTITY;
+    let mut k = 0;
+    while k < count {
+        let e = entry_record(g, entry_at(j, k));
+        if e.never {
+            return NEVER;
+        }
+        r = cleared(composed(r, e));
+        if r.never {
+            return NEVER;
+        }
+        k += 1;
+    }
+    tidied(r)
 }

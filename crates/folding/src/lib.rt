@@ -1,50 +1,58 @@
 // Folding journals into records, and going on from a record.
 ghost use mathlib.Core.Path.{_≡_};
+ghost use Rattle.rules.specs.Graph.{graphOf};
 ghost use Rattle.folding.specs.Answers.{theFold, theRestoring};
+use crate::inner::fold_entries;
 use journal::Ran;
+use journal::inner::length_fits;
 use records::Record;
 use records::Recorded;
-use rules::Graph;
+use records::inner::NONE;
+use records::inner::given;
+use records::inner::suits;
+use records::inner::well_formed;
+use rules::Job;
 use rules::Marking;
+use rules::Refusal;
+use rules::Verdict;
 
 pub mod inner;
-pub mod lent;
 
 // The record of a journal on a graph. Refusals 2, 4, 6, 7.
-pub fn fold(g: Graph, j: &[u8]) -> Recorded
-    ensures { λ r. ⌜ r ≡ theFold g (now (j .entry)) ⌝ }
+pub fn fold<'a, 'b>(g: &'a Job, j: &'b [u8]) -> Recorded
+    ensures { λ r. ⌜ r ≡ theFold (graphOf (now (g .entry))) (now (j .entry)) ⌝ }
 {
-    lent::fold(
-        g.steps,
-        g.people,
-        g.roles,
-        &g.allows,
-        &g.holds,
-        &g.conditions,
-        &g.responses,
-        &g.includes,
-        &g.excludes,
-        j,
-    )
+    let v = rules::check(g);
+    if let Verdict::Refused(r) = v {
+        return Recorded::Refused(r);
+    }
+    if !length_fits(j) {
+        return Recorded::Refused(Refusal::Length);
+    }
+    Recorded::Made(fold_entries(g, j))
 }
 
 // A record, then the rest of a journal, from a marking: what a cabinet does after a reboot. Refusals 2, 4, 6, 7, 8, 10, 16, then 11
 // to 15 of the earliest refused entry.
-pub fn restore(g: Graph, r: Record, j: &[u8], m: Marking) -> Ran
-    ensures { λ x. ⌜ x ≡ theRestoring g r (now (j .entry)) m ⌝ }
+pub fn restore<'a, 'b>(g: &'a Job, r: Record, j: &'b [u8], m: Marking) -> Ran
+    ensures { λ x. ⌜ x ≡ theRestoring (graphOf (now (g .entry))) r (now (j .entry)) m ⌝ }
 {
-    lent::restore(
-        g.steps,
-        g.people,
-        g.roles,
-        &g.allows,
-        &g.holds,
-        &g.conditions,
-        &g.responses,
-        &g.includes,
-        &g.excludes,
-        r,
-        j,
-        m,
-    )
+    let steps = g[0];
+    let v = rules::check(g);
+    if let Verdict::Refused(q) = v {
+        return Ran::Stopped(0, q, NONE);
+    }
+    if !length_fits(j) {
+        return Ran::Stopped(0, Refusal::Length, NONE);
+    }
+    if !rules::inner::fits(steps, m) {
+        return Ran::Stopped(0, Refusal::Outside, NONE);
+    }
+    if !well_formed(steps, r) {
+        return Ran::Stopped(0, Refusal::IllFormed, NONE);
+    }
+    if !suits(r, m) {
+        return Ran::Stopped(0, Refusal::NotApplied, m);
+    }
+    journal::run_entries(g, given(r, m), j)
 }

@@ -10,7 +10,7 @@ use lib.ListN.{length, getD, take, length-append}
 use lib.Pow.{pow-pos}
 use borrow.Author.Tests.{not-false, eq-eqb, le-leb}
 use Rattle.sets.specs.Truth.{and-intro}
-use Rattle.rules.specs.declared.Graph.{Graph}
+use Rattle.rules.specs.Graph.{Graph}
 use Rattle.rules.specs.declared.Marking.{Marking}
 use Rattle.rules.specs.declared.Entry.{Entry}
 use Rattle.rules.specs.declared.Refusal.{Refusal}

@@ -1,14 +1,26 @@
 // Journals: entries of three bytes, read, run and walked.
 ghost use mathlib.Core.Path.{_≡_};
-ghost use Rattle.journal.specs.Run.{theRun};
+ghost use Prim.Native.Nat.{ℕ, _%_, _≤_};
+ghost use lib.ListN.{length};
+ghost use Rattle.rules.specs.declared.Verdict.{Verdict};
+ghost use Rattle.rules.specs.Graph.{graphOf, graphVerdict};
+ghost use Rattle.journal.specs.Journal.{entries};
+ghost use Rattle.journal.specs.Run.{runOn, theRun};
 ghost use Rattle.journal.specs.Walk.{strideAt};
+use crate::inner::entry_at;
+use crate::inner::length_fits;
+use crate::quick::SINGLES;
+use crate::quick::allowed;
+use crate::quick::refused;
+use crate::quick::taken;
 use rules::Entry;
-use rules::Graph;
+use rules::Job;
 use rules::Marking;
+use rules::NONE;
 use rules::Refusal;
+use rules::Verdict;
 
 pub mod inner;
-pub mod lent;
 pub mod quick;
 
 // All entries pass, with the end marking and their number; or the first that is not allowed, with its index, its refusal and
@@ -37,23 +49,43 @@ pub struct Stride {
     pub place: usize,
 }
 
-// Run a journal from a marking. Refusals 2, 4, 6, 7, 8, then 11 to 15 of the earliest refused entry.
-pub fn run(g: Graph, m: Marking, j: &[u8]) -> Ran
-    ensures { λ r. ⌜ r ≡ theRun g m (now (j .entry)) ⌝ }
+// The entries, on a graph and a journal with nothing against them. Refusals 11 to 15.
+pub fn run_entries<'a, 'b>(g: &'a Job, m: Marking, j: &'b [u8]) -> Ran
+    requires { ⌜ (graphVerdict (graphOf (now g)) ≡ Verdict.Clear) × (length (now j) % 3 ≡ 0) × (length (now j) ≤ 65535) ⌝ }
+    ensures { λ r. ⌜ r ≡ runOn (graphOf (now (g .entry))) m 0 (entries (now (j .entry))) ⌝ }
 {
-    lent::run(
-        g.steps,
-        g.people,
-        g.roles,
-        &g.allows,
-        &g.holds,
-        &g.conditions,
-        &g.responses,
-        &g.includes,
-        &g.excludes,
-        m,
-        j,
-    )
+    let singles = SINGLES;
+    let count = j.len() / 3;
+    let mut at = m;
+    let mut k = 0;
+    while k < count {
+        let e = entry_at(j, k);
+        if !allowed(&singles, g, at, e) {
+            let index = k as u16;
+            return refused(g, at, e, index);
+        }
+        at = taken(g, at, e);
+        k += 1;
+    }
+    let number = count as u16;
+    Ran::Ended(at, number)
+}
+
+// Run a journal from a marking. Refusals 2, 4, 6, 7, 8, then 11 to 15 of the earliest refused entry.
+pub fn run<'a, 'b>(g: &'a Job, m: Marking, j: &'b [u8]) -> Ran
+    ensures { λ r. ⌜ r ≡ theRun (graphOf (now (g .entry))) m (now (j .entry)) ⌝ }
+{
+    let v = rules::check(g);
+    if let Verdict::Refused(r) = v {
+        return Ran::Stopped(0, r, NONE);
+    }
+    if !length_fits(j) {
+        return Ran::Stopped(0, Refusal::Length, NONE);
+    }
+    if !rules::inner::fits(g[0], m) {
+        return Ran::Stopped(0, Refusal::Outside, NONE);
+    }
+    run_entries(g, m, j)
 }
 
 // A walk at the start of a journal. It always succeeds.

@@ -2,9 +2,8 @@
 // meets is asked only then.
 ghost use mathlib.Core.Path.{_≡_};
 ghost use Prim.Native.Nat.{ℕ, _<_, _≤_};
-ghost use Rattle.sets.specs.Sets.{has};
 ghost use Rattle.rules.specs.declared.Verdict.{Verdict};
-ghost use Rattle.rules.specs.Graph.{lentGraph, graphVerdict};
+ghost use Rattle.rules.specs.Graph.{graphOf, graphVerdict};
 ghost use Rattle.rules.specs.Move.{rowOf, after, entryMove};
 ghost use Rattle.journal.specs.declared.Ran.{Ran};
 ghost use Rattle.journal.specs.Run.{goOn};
@@ -12,12 +11,13 @@ ghost use Rattle.journal.specs.Allowed.{isAllowed};
 ghost use Rattle.journal.specs.Singles.{Singles};
 use crate::Ran;
 use rules::Entry;
+use rules::Job;
 use rules::Marking;
 use rules::Move;
+use rules::inner::enter;
 use rules::inner::moved;
+use rules::inner::row_at;
 use rules::inner::waits;
-use rules::lent::enter;
-use rules::lent::row_at;
 
 // The sets with one step each. A test by a look into this table is quicker than one by a shift, since the compiler shares a shift
 // with the move after the test and then does both in more instructions.
@@ -88,33 +88,10 @@ pub const SINGLES: [u64; 64] = [
     9223372036854775808,
 ];
 
-// Is role r in x? Asked of 32 bits, which compiles to one test of a bit.
-pub fn has_role(x: u16, r: u8) -> bool
-    requires { ⌜ r < 16 ⌝ }
-    ensures { λ b. ⌜ b ≡ has x r ⌝ }
-{
-    let y = x as u32;
-    let d = r as u32;
-    (y >> d) % 2 == 1
-}
-
 // Is the entry allowed? A person or role below 16 and a step below 64 that are not there have empty rows, so the counts are not asked.
-pub fn allowed<'a, 'b>(
-    singles: &'b [u64; 64],
-    steps: u8,
-    people: u8,
-    roles: u8,
-    allows: &'a [u16; 64],
-    holds: &'a [u16; 16],
-    conditions: &'a [u64; 64],
-    responses: &'a [u64; 64],
-    includes: &'a [u64; 64],
-    excludes: &'a [u64; 64],
-    m: Marking,
-    e: Entry,
-) -> bool
-    requires { ⌜ (graphVerdict (lentGraph steps people roles (now allows) (now holds) (now conditions) (now responses) (now includes) (now excludes)) ≡ Verdict.Clear) × Singles (now singles) ⌝ }
-    ensures { λ r. ⌜ r ≡ isAllowed (lentGraph steps people roles (now (allows .entry)) (now (holds .entry)) (now (conditions .entry)) (now (responses .entry)) (now (includes .entry)) (now (excludes .entry))) m e ⌝ }
+pub fn allowed<'a, 'b>(singles: &'b [u64; 64], g: &'a Job, m: Marking, e: Entry) -> bool
+    requires { ⌜ (graphVerdict (graphOf (now g)) ≡ Verdict.Clear) × Singles (now singles) ⌝ }
+    ensures { λ r. ⌜ r ≡ isAllowed (graphOf (now (g .entry))) m e ⌝ }
 {
     let p = e.person;
     let s = e.step.0;
@@ -125,20 +102,8 @@ pub fn allowed<'a, 'b>(
     if 64 <= s {
         return false;
     }
-    let w = row_at(
-        steps,
-        people,
-        roles,
-        allows,
-        holds,
-        conditions,
-        responses,
-        includes,
-        excludes,
-        p,
-        s,
-    );
-    if !has_role(w.held & w.allows, r) {
+    let w = row_at(g, p, s);
+    if !sets::has(w.held & w.allows, r) {
         return false;
     }
     let i = s as usize;
@@ -149,74 +114,21 @@ pub fn allowed<'a, 'b>(
 }
 
 // The marking after an entry that is allowed.
-pub fn taken<'a>(
-    steps: u8,
-    people: u8,
-    roles: u8,
-    allows: &'a [u16; 64],
-    holds: &'a [u16; 16],
-    conditions: &'a [u64; 64],
-    responses: &'a [u64; 64],
-    includes: &'a [u64; 64],
-    excludes: &'a [u64; 64],
-    m: Marking,
-    e: Entry,
-) -> Marking
+pub fn taken(g: &Job, m: Marking, e: Entry) -> Marking
     requires { ⌜ (e .person < 16) × (e .step .0 < 64) ⌝ }
-    ensures { λ r. ⌜ r ≡ after (rowOf (lentGraph steps people roles (now (allows .entry)) (now (holds .entry)) (now (conditions .entry)) (now (responses .entry)) (now (includes .entry)) (now (excludes .entry))) (e .person) (e .step .0)) m (e .step .0) ⌝ }
+    ensures { λ r. ⌜ r ≡ after (rowOf (graphOf (now (g .entry))) (e .person) (e .step .0)) m (e .step .0) ⌝ }
 {
     let p = e.person;
     let s = e.step.0;
-    moved(
-        row_at(
-            steps,
-            people,
-            roles,
-            allows,
-            holds,
-            conditions,
-            responses,
-            includes,
-            excludes,
-            p,
-            s,
-        ),
-        m,
-        s,
-    )
+    moved(row_at(g, p, s), m, s)
 }
 
 // Where a run stops at an entry that is not.
-pub fn refused<'a>(
-    steps: u8,
-    people: u8,
-    roles: u8,
-    allows: &'a [u16; 64],
-    holds: &'a [u16; 16],
-    conditions: &'a [u64; 64],
-    responses: &'a [u64; 64],
-    includes: &'a [u64; 64],
-    excludes: &'a [u64; 64],
-    m: Marking,
-    e: Entry,
-    index: u16,
-) -> Ran
-    requires { ⌜ (steps ≤ 64) × (people ≤ 16) × (roles ≤ 16) ⌝ }
-    ensures { λ r. ⌜ r ≡ goOn index m (entryMove (lentGraph steps people roles (now (allows .entry)) (now (holds .entry)) (now (conditions .entry)) (now (responses .entry)) (now (includes .entry)) (now (excludes .entry))) m e) (λ next. Ran.Ended next index) ⌝ }
+pub fn refused(g: &Job, m: Marking, e: Entry, index: u16) -> Ran
+    requires { ⌜ (graphOf (now g) .steps ≤ 64) × (graphOf (now g) .people ≤ 16) × (graphOf (now g) .roles ≤ 16) ⌝ }
+    ensures { λ r. ⌜ r ≡ goOn index m (entryMove (graphOf (now (g .entry))) m e) (λ next. Ran.Ended next index) ⌝ }
 {
-    match enter(
-        steps,
-        people,
-        roles,
-        allows,
-        holds,
-        conditions,
-        responses,
-        includes,
-        excludes,
-        m,
-        e,
-    ) {
+    match enter(g, m, e) {
         Move::Moved(next) => Ran::Ended(next, index),
         Move::Refused(r, _) => Ran::Stopped(index, r, m),
     }

@@ -1,12 +1,11 @@
-// The kept marking: the cabinet keeps one marking, and an allowed entry alters it where it lies. `lent::keep` takes it by `&mut`.
+// The kept marking: the cabinet keeps one marking, and an allowed entry alters it where it lies. `keep` takes it by `&mut`.
 ghost use mathlib.Core.Path.{_≡_};
+ghost use Rattle.rules.specs.Graph.{graphOf};
 ghost use Rattle.kept.specs.Keep.{theKept};
 use rules::Entry;
-use rules::Graph;
+use rules::Job;
 use rules::Marking;
 use rules::Move;
-
-pub mod lent;
 
 // The answer of the move, and the marking that lies there then.
 pub struct Kept {
@@ -14,21 +13,41 @@ pub struct Kept {
     pub marking: Marking,
 }
 
-// An entry on the kept marking: it is laid down, lent to `lent::keep` and taken up again. Refusals 2, 4, 6, 8, 11 to 15.
-pub fn kept_after(g: Graph, m: Marking, e: Entry) -> Kept
-    ensures { λ r. ⌜ r ≡ theKept g m e ⌝ }
+// The move's answer, beside the marking to keep. Refusals 2, 4, 6, 8, 11 to 15.
+pub fn keeping(m: Marking, g: &Job, e: Entry) -> Kept
+    ensures { λ r. ⌜ r ≡ theKept (graphOf (now (g .entry))) m e ⌝ }
 {
-    lent::kept_after(
-        m,
-        g.steps,
-        g.people,
-        g.roles,
-        &g.allows,
-        &g.holds,
-        &g.conditions,
-        &g.responses,
-        &g.includes,
-        &g.excludes,
-        e,
-    )
+    let o = rules::take(g, m, e);
+    match o {
+        Move::Moved(next) => Kept {
+            answer: Move::Moved(next),
+            marking: next,
+        },
+        Move::Refused(r, back) => Kept {
+            answer: Move::Refused(r, back),
+            marking: m,
+        },
+    }
+}
+
+// An entry on the kept marking, which is altered where it lies. Refusals 2, 4, 6, 8, 11 to 15.
+pub fn keep<'s, 'a>(m: &'s mut Marking, g: &'a Job, e: Entry) -> Move
+    ensures { λ r. ⌜ (r ≡ theKept (graphOf (now (g .entry))) (now (m .entry)) e .answer)
+        × (now (m .exit) ≡ theKept (graphOf (now (g .entry))) (now (m .entry)) e .marking) ⌝ }
+{
+    let o = keeping(*m, g, e);
+    *m = o.marking;
+    o.answer
+}
+
+// The same for callers who hold the marking by value: it is laid down, lent and taken up again.
+pub fn kept_after<'a>(m: Marking, g: &'a Job, e: Entry) -> Kept
+    ensures { λ r. ⌜ r ≡ theKept (graphOf (now (g .entry))) m e ⌝ }
+{
+    let mut kept = m;
+    let answer = keep(&mut kept, g, e);
+    Kept {
+        answer: answer,
+        marking: kept,
+    }
 }

@@ -4,7 +4,7 @@ use Prim.Native.Nat.{ℕ, _+_}
 use mathlib.Core.List.{List, [], _∷_}
 use mathlib.Core.Bool.{cond}
 use Rattle.sets.specs.Sets.{single, meet, minus, empty, full, lowest}
-use Rattle.rules.specs.declared.Graph.{Graph}
+use Rattle.rules.specs.Graph.{Graph}
 use Rattle.rules.specs.declared.Marking.{Marking}
 use Rattle.rules.specs.declared.Entry.{Entry}
 use Rattle.rules.specs.declared.Verdict.{Verdict}
@@ -14,7 +14,7 @@ use Rattle.rules.specs.Move.{entryMove}
 use Rattle.journal.specs.Journal.{entries}
 use Rattle.laps.specs.declared.Lapped.{Lapped}
 use Rattle.laps.specs.declared.Pass.{Pass}
-use Rattle.laps.specs.declared.lent.Leg.{Leg}
+use Rattle.laps.specs.declared.inner.Leg.{Leg}
 use Rattle.laps.specs.Laps.{lapLines}
 
 -- the steps of x that are due and included in m, less s

@@ -5,7 +5,7 @@ use mathlib.Core.List.{List, [], _∷_, _++_}
 use mathlib.Core.Bool.{not, _&&_, cond}
 use lib.ListN.{length, getD}
 use lib.Dec.{eqb, ltb}
-use Rattle.rules.specs.declared.Graph.{Graph}
+use Rattle.rules.specs.Graph.{Graph}
 use Rattle.rules.specs.declared.Marking.{Marking}
 use Rattle.rules.specs.declared.Entry.{Entry}
 use Rattle.rules.specs.declared.Refusal.{Refusal}

@@ -13,7 +13,7 @@ use lib.Dec.{eqb}
 use borrow.Author.Tests.{eqb-true, eq-eqb}
 use Rattle.sets.specs.Sets.{has}
 use Rattle.sets.specs.Laws.{has-union, has-meet, has-minus, has-single}
-use Rattle.rules.specs.declared.Graph.{Graph}
+use Rattle.rules.specs.Graph.{Graph}
 use Rattle.rules.specs.declared.inner.Row.{Row}
 use Rattle.rules.specs.declared.Marking.{Marking}
 use Rattle.rules.specs.declared.Entry.{Entry}
@@ -21,7 +21,7 @@ use Rattle.rules.specs.declared.Refusal.{Refusal}
 use Rattle.rules.specs.declared.Verdict.{Verdict}
 use Rattle.rules.specs.Move.{rowOf, after, moveOf, entryMove}
 use Rattle.folding.specs.Effect.{afterAll}
-use Rattle.laps.specs.declared.lent.Leg.{Leg}
+use Rattle.laps.specs.declared.inner.Leg.{Leg}
 use Rattle.laps.specs.Endless.{stepAt, markingAt, verdictAt, DueAt, DoneAt, ExcludedAt, Waiting}
 use Rattle.laps.specs.Decision.{still, goOn, legOn}
 

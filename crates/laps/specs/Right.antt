@@ -11,7 +11,7 @@ use borrow.Author.Tests.{ltb-true, lt-ltb, eqb-false, not-false}
 use Rattle.sets.specs.Sets.{has, empty, full, lowest}
 use Rattle.sets.specs.Truth.{and-right}
 use Rattle.sets.specs.Laws.{has-full, has-above, lt-of-members, lowest-least, lowest-has, empty-members}
-use Rattle.rules.specs.declared.Graph.{Graph}
+use Rattle.rules.specs.Graph.{Graph}
 use Rattle.rules.specs.declared.Marking.{Marking}
 use Rattle.rules.specs.declared.Entry.{Entry}
 use Rattle.rules.specs.declared.Verdict.{Verdict}
@@ -25,7 +25,7 @@ use Rattle.journal.specs.Journal.{entries, lengthFits}
 use Rattle.journal.specs.Laws.{fits-threes, entries-length}
 use Rattle.laps.specs.declared.Lapped.{Lapped}
 use Rattle.laps.specs.declared.Pass.{Pass}
-use Rattle.laps.specs.declared.lent.Leg.{Leg}
+use Rattle.laps.specs.declared.inner.Leg.{Leg}
 use Rattle.laps.specs.Endless.{stepAt, markingAt, verdictAt, DueAt, GoesOn}
 use Rattle.laps.specs.Laps.{runOf, indexAt, passAt, numberOfPass, lengthsLines, emptyLines, lapLines, LapAnswer}
 use Rattle.laps.specs.Decision.{legOf, upon, judged, secondLap, firstLap, decision}

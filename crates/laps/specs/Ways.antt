@@ -9,7 +9,7 @@ use native.Mathlib.Omega.{arith}
 use lib.ListN.{length, drop, drop-of-length-le}
 use lib.Dec.{eqb}
 use Rattle.sets.specs.Sets.{full}
-use Rattle.rules.specs.declared.Graph.{Graph}
+use Rattle.rules.specs.Graph.{Graph}
 use Rattle.rules.specs.declared.Marking.{Marking}
 use Rattle.rules.specs.declared.Entry.{Entry}
 use Rattle.rules.specs.declared.Refusal.{Refusal}
@@ -28,7 +28,7 @@ use Rattle.journal.specs.Allowed.{isAllowed, refused-moved}
 use Rattle.journal.specs.Laws.{entries-from}
 use Rattle.laps.specs.declared.Lapped.{Lapped}
 use Rattle.laps.specs.declared.Pass.{Pass}
-use Rattle.laps.specs.declared.lent.Leg.{Leg}
+use Rattle.laps.specs.declared.inner.Leg.{Leg}
 use Rattle.laps.specs.Laps.{lengthsLines, emptyLines, lapLines}
 use Rattle.laps.specs.Decision.{still, goOn, legOn, legOf, upon}
 

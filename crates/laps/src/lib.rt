@@ -1,11 +1,15 @@
 // Laps: a stem, then a lap without end.
+ghost use Rattle.rules.specs.Graph.{graphOf};
 ghost use Rattle.laps.specs.Laps.{LapAnswer};
-use rules::Graph;
+use crate::inner::decide;
+use journal::inner::length_fits;
+use rules::Job;
 use rules::Marking;
 use rules::Refusal;
 use rules::Step;
+use rules::Verdict;
 
-pub mod lent;
+pub mod inner;
 
 // The stem, the lap's first time, its second, any later one.
 pub enum Pass {
@@ -25,21 +29,22 @@ pub enum Lapped {
 }
 
 // The stem, then the lap for ever. Refusals 2, 4, 6, 7, 8, 17, then 11 to 15 of the earliest refused entry.
-pub fn lap(g: Graph, m: Marking, stem: &[u8], lap: &[u8]) -> Lapped
-    ensures { λ r. ⌜ LapAnswer g m (now (stem .entry)) (now (lap .entry)) r ⌝ }
+pub fn lap<'a, 'b, 'c>(g: &'a Job, m: Marking, stem: &'b [u8], lap: &'c [u8]) -> Lapped
+    ensures { λ r. ⌜ LapAnswer (graphOf (now (g .entry))) m (now (stem .entry)) (now (lap .entry)) r ⌝ }
 {
-    lent::lap(
-        g.steps,
-        g.people,
-        g.roles,
-        &g.allows,
-        &g.holds,
-        &g.conditions,
-        &g.responses,
-        &g.includes,
-        &g.excludes,
-        m,
-        stem,
-        lap,
-    )
+    let steps = g[0];
+    let v = rules::check(g);
+    if let Verdict::Refused(r) = v {
+        return Lapped::Refused(r);
+    }
+    if !(length_fits(stem) & length_fits(lap)) {
+        return Lapped::Refused(Refusal::Length);
+    }
+    if !rules::inner::fits(steps, m) {
+        return Lapped::Refused(Refusal::Outside);
+    }
+    if lap.len() == 0 {
+        return Lapped::Refused(Refusal::EmptyLap);
+    }
+    decide(g, m, stem, lap)
 }

@@ -30,13 +30,13 @@ pub const NEVER: Record = Record {
 };
 
 // Can a graph have n steps?
-pub fn counts(n: u8) -> bool
+pub fn counts(n: u64) -> bool
     ensures { λ r. ⌜ r ≡ within1to n 64 ⌝ }
 {
     (1 <= n) & (n <= 64)
 }
 
-pub fn well_formed(n: u8, r: Record) -> bool
+pub fn well_formed(n: u64, r: Record) -> bool
     requires { ⌜ n ≤ 64 ⌝ }
     ensures { λ b. ⌜ b ≡ wellFormed n r ⌝ }
 {
@@ -91,7 +91,7 @@ pub fn applied(r: Record, m: Marking) -> Applied
 }
 
 // A well-formed record at any marking. Refusals 8, 16.
-pub fn applied_at(n: u8, r: Record, m: Marking) -> Applied
+pub fn applied_at(n: u64, r: Record, m: Marking) -> Applied
     requires { ⌜ (within1to n 64 ≡ true) × (wellFormed n r ≡ true) ⌝ }
     ensures { λ x. ⌜ x ≡ theApplication n r m ⌝ }
 {

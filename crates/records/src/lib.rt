@@ -49,7 +49,7 @@ impl Record {
     };
 
     // This record, then the other, for n steps. Refusals 2, 10.
-    pub fn join(self, other: Record, n: u8) -> Recorded
+    pub fn join(self, other: Record, n: u64) -> Recorded
         ensures { λ r. ⌜ r ≡ theJoin n self other ⌝ }
     {
         if !inner::counts(n) {
@@ -63,7 +63,7 @@ impl Record {
     }
 
     // This record at a marking of n steps. Refusals 2, 8, 10, 16.
-    pub fn apply(self, m: Marking, n: u8) -> Applied
+    pub fn apply(self, m: Marking, n: u64) -> Applied
         ensures { λ r. ⌜ r ≡ theApplication n self m ⌝ }
     {
         if !inner::counts(n) {
@@ -80,7 +80,7 @@ impl Record {
 }
 
 // The record of n steps that the bytes spell. Refusals 2, 10.
-pub fn read(n: u8, s: &[u8]) -> Recorded
+pub fn read(n: u64, s: &[u8]) -> Recorded
     ensures { λ r. ⌜ r ≡ theReading n (now (s .entry)) ⌝ }
 {
     if !inner::counts(n) {
@@ -100,7 +100,7 @@ pub fn read(n: u8, s: &[u8]) -> Recorded
 }
 
 // A record of n steps into the first 65 bytes of the room. Refusals 2, 10, 18.
-pub fn write(n: u8, r: Record, room: &mut [u8]) -> Verdict
+pub fn write(n: u64, r: Record, room: &mut [u8]) -> Verdict
     ensures { λ v. ⌜ Writing n r (now (room .entry)) v (now (room .exit)) ⌝ }
 {
     if !inner::counts(n) {

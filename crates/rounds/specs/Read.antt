@@ -12,11 +12,10 @@ use lib.Dec.{eqb}
 use lib.Pow.{pow-mono}
 use borrow.Author.Tests.{eq-eqb, not-false}
 use Rattle.sets.specs.Truth.{and-right, and-intro}
-use Rattle.rules.specs.declared.Graph.{Graph}
 use Rattle.rules.specs.declared.Marking.{Marking}
 use Rattle.rules.specs.declared.Verdict.{Verdict}
 use Rattle.rules.specs.First.{first}
-use Rattle.rules.specs.Graph.{row, countsFit, kindsApart}
+use Rattle.rules.specs.Graph.{Graph, row, countsFit, kindsApart}
 use Rattle.rules.specs.Gathered.{Sized}
 use Rattle.rules.specs.Move.{markingFits, noMarking}
 use Rattle.rules.specs.Laws.{clear-head}

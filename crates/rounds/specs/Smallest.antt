@@ -4,11 +4,10 @@ use mathlib.Core.Path.{_≡_, refl}
 use mathlib.Core.List.{List, [], _∷_, _++_}
 use lib.ListN.{length, replicate}
 use Rattle.sets.specs.Sets.{has, every}
-use Rattle.rules.specs.declared.Graph.{Graph}
 use Rattle.rules.specs.declared.Marking.{Marking}
 use Rattle.rules.specs.declared.Verdict.{Verdict}
 use Rattle.rules.specs.First.{first}
-use Rattle.rules.specs.Graph.{keeps, setsFit}
+use Rattle.rules.specs.Graph.{Graph, keeps, setsFit}
 use Rattle.numbers.specs.Numbers.{number, bytes}
 use Rattle.layout.specs.Layout.{contents, joined, follows}
 use Rattle.arrows.specs.Arrows.{arrowsIn, spelt, allKnown, ascending, put, putAll, held, listed, arrowsOf, pick}

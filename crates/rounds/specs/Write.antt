@@ -9,11 +9,10 @@ use lib.ListN.{length, drop}
 use lib.Seq.{sets, sets-eq}
 use borrow.Author.Tests.{not-false}
 use Rattle.sets.specs.Truth.{and-left, and-right, and-intro}
-use Rattle.rules.specs.declared.Graph.{Graph}
 use Rattle.rules.specs.declared.Marking.{Marking}
 use Rattle.rules.specs.declared.Verdict.{Verdict}
 use Rattle.rules.specs.First.{first}
-use Rattle.rules.specs.Graph.{row, keeps, countsFit, setsFit}
+use Rattle.rules.specs.Graph.{Graph, row, keeps, countsFit, setsFit}
 use Rattle.rules.specs.Move.{markingFits, noMarking}
 use Rattle.rules.specs.Laws.{clear-head, clear-tail}
 use Rattle.arrows.specs.Arrows.{allKnown, ascending, spelt, tableOf}
@@ -23,9 +22,8 @@ use Rattle.layout.specs.Layout.{laid, offsetAt, sizeAt, bodyAt}
 use Rattle.layout.specs.Laws.{bodiesFrom, fits-laid, drop-bytes}
 use Rattle.bodies.specs.Tables.{length-tabled}
 use Rattle.bodies.specs.Bodies.{countsBody, markingBody, rolesBody, setAt, setsIn, roleSetsFit, quarter}
-use Rattle.sheet.specs.declared.Sheet.{Sheet}
 use Rattle.sheet.specs.declared.Written.{Written}
-use Rattle.sheet.specs.Sheet.{arrowsBody, bodiesOf, sheetBytes, countsOf, firstOf, arrowsOn, graphOf, countsRight, readVerdict, noGraph, theSheet, contentLines, theWritten, roomAfter}
+use Rattle.sheet.specs.Sheet.{Sheet, arrowsBody, bodiesOf, sheetBytes, countsOf, firstOf, arrowsOn, graphOf, countsRight, readVerdict, noGraph, theSheet, contentLines, theWritten, roomAfter}
 use Rattle.sheet.specs.Judge.{Right, clear-right, body-length, if-clear}
 use Rattle.sheet.specs.Content.{write-done}
 use Rattle.rounds.specs.Bodies.{take-bytes, counts-written, marking-written, roles-written, roles-kept}

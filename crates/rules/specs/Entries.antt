@@ -6,7 +6,7 @@ use native.Mathlib.Omega.{arith}
 use lib.Dec.{ltb, leb}
 use borrow.Author.Tests.{ltb-true, le-leb, not-false}
 use Rattle.sets.specs.Truth.{and-left, and-right}
-use Rattle.rules.specs.declared.Graph.{Graph}
+use Rattle.rules.specs.Graph.{Graph}
 use Rattle.rules.specs.declared.Marking.{Marking}
 use Rattle.rules.specs.declared.Entry.{Entry}
 use Rattle.rules.specs.declared.Refusal.{Refusal}

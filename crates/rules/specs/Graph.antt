@@ -2,19 +2,50 @@
 use Prim.Native.Nat.{ℕ}
 use mathlib.Core.List.{List, [], _∷_}
 use mathlib.Core.Bool.{Bool, not, _&&_, cond}
-use lib.ListN.{length, getD}
+use lib.ListN.{length, getD, take, drop}
 use lib.Dec.{ltb, leb}
 use Rattle.sets.specs.Sets.{meet, empty, within, every}
-use Rattle.rules.specs.declared.Graph.{Graph}
 use Rattle.rules.specs.declared.Refusal.the-variants.{Counts, Beyond, Both}
 use Rattle.rules.specs.declared.Verdict.{Verdict}
 use Rattle.rules.specs.First.{Line, first}
 
--- ---- the relations of Definition 3
+-- a job: three counts, and tables of sets. Row b of `conditions` is what b waits for; row a of the next three is what a points at
+pub record Graph : Type 0 where
+  pub steps : ℕ
+  pub people : ℕ
+  pub roles : ℕ
+  pub conditions : List ℕ
+  pub responses : List ℕ
+  pub includes : List ℕ
+  pub excludes : List ℕ
+  pub allows : List ℕ
+  pub holds : List ℕ
 
 -- row s of a table; nothing stands beyond its end
 abbrev pub row : List ℕ → ℕ → ℕ
 row table s = getD table s 0
+
+-- ---- a job as it is lent: one block of 339 words. No other place knows where a table stands
+
+-- the table of `count` rows from word `at` on
+abbrev pub tableAt : ℕ → ℕ → List ℕ → List ℕ
+tableAt at count block = take count (drop at block)
+
+abbrev pub graphOf : List ℕ → Graph
+graphOf block =
+    record {
+      steps = row block 0;
+      people = row block 1;
+      roles = row block 2;
+      conditions = tableAt 3 64 block;
+      responses = tableAt 67 64 block;
+      includes = tableAt 131 64 block;
+      excludes = tableAt 195 64 block;
+      allows = tableAt 259 64 block;
+      holds = tableAt 323 16 block;
+    }
+
+-- ---- the relations of Definition 3
 
 -- (iv) {a | a →• s}: what s waits for
 abbrev pub conditionsOf : Graph → ℕ → ℕ
@@ -85,18 +116,3 @@ graphLines g =
 
 abbrev pub graphVerdict : Graph → Verdict
 graphVerdict g = first (graphLines g)
-
--- a graph that is lent table by table
-abbrev pub lentGraph : ℕ → ℕ → ℕ → List ℕ → List ℕ → List ℕ → List ℕ → List ℕ → List ℕ → Graph
-lentGraph steps people roles allows holds conditions responses includes excludes =
-    record {
-      steps = steps;
-      people = people;
-      roles = roles;
-      allows = allows;
-      holds = holds;
-      conditions = conditions;
-      responses = responses;
-      includes = includes;
-      excludes = excludes;
-    }

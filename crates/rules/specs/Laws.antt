@@ -1,19 +1,20 @@
 -- The laws of the rules: which number is given, when a graph is as document 01 has it, and what the code's tests say of it.
 -- Assumes nothing.
-use Prim.Native.Nat.{ℕ, zero, suc, _+_, _^_, _≤_, _<_}
+use Prim.Native.Nat.{ℕ, zero, suc, _+_, _-_, _^_, _≤_, _<_}
 use mathlib.Core.Path.{_≡_, refl, sym, ap, ap₂, _∙_, subst}
 use mathlib.Core.List.{List, [], _∷_, _++_}
 use mathlib.Core.Bool.{Bool, true, false, not, _&&_, _||_, cond, true≢false, false≢true}
 use native.Mathlib.Nat.{lt-of-lt-of-le, lt-trans}
 use native.Mathlib.Omega.{arith}
 use native.Mathlib.Decide.{decLt}
-use lib.ListN.{length}
+use lib.ListN.{length, drop, length-drop}
+use lib.Seq.{getD-take, getD-drop, length-take-le}
 use lib.Dec.{eqb, ltb, leb}
 use borrow.Author.Tests.{ltb-true, leb-true, lt-ltb, le-ltb, lt-leb, eq-eqb, eqb-true, not-false}
 use Rattle.sets.specs.Sets.{union, empty, within, full, gather, every}
 use Rattle.sets.specs.Truth.{and-exchange, and-left, and-right, and-intro, same-truth, or-first, or-second, or-split}
 use Rattle.sets.specs.Laws.{empty-gather, empty-union, within-gather, within-union, within-full, every-and, every-same, every-at, every-of}
-use Rattle.rules.specs.declared.Graph.{Graph}
+use Rattle.rules.specs.Graph.{Graph}
 use Rattle.rules.specs.declared.Marking.{Marking}
 use Rattle.rules.specs.declared.Entry.{Entry}
 use Rattle.rules.specs.declared.Refusal.{Refusal}
@@ -22,7 +23,7 @@ use Rattle.rules.specs.declared.Move.{Move}
 use Rattle.rules.specs.declared.Ending.{Ending}
 use Rattle.rules.specs.declared.Refusal.the-variants.{Outside, Unknown}
 use Rattle.rules.specs.First.{Line, first, number, numberOf}
-use Rattle.rules.specs.Graph.{row, keeps, rolesFit, arrowsFit, kindsApart, graphLines, graphVerdict, countsFit, within1to}
+use Rattle.rules.specs.Graph.{row, tableAt, graphOf, keeps, rolesFit, arrowsFit, kindsApart, graphLines, graphVerdict, countsFit, within1to}
 use Rattle.rules.specs.Gathered.{beyond, rowsTogether, rowsShared, Sized}
 use Rattle.rules.specs.Move.{moveOf, entryMove, moveOn, theMove, theEnding, endingOn, endingOf, isFinished, known, markingFits, entryLines, markingLines, sizeLines, rowLines, rowOf, after, noMarking}
 
@@ -164,6 +165,14 @@ first-lowest k (l ∷ a) h j e = go (l .1) refl (first-lowest (numberOf (l .0)) 
 
 -- ---- a graph's tables
 
+-- row s of the table from word `at` on is word at + s
+pub row-at : (at count : ℕ) (block : List ℕ) (s : ℕ) → s < count → row (tableAt at count block) s ≡ row block (at + s)
+row-at at count block s h = getD-take count (drop at block) s 0 h ∙ getD-drop at block s 0
+
+-- a table within the block has its count of rows
+pub rows-at : (at count : ℕ) (block : List ℕ) → at + count ≤ length block → length (tableAt at count block) ≡ count
+rows-at at count block h = length-take-le count (drop at block) (let l : length (drop at block) ≡ length block - at = length-drop at block in omega arith)
+
 -- below the count nothing is gathered of what lies beyond it
 pub gather-front : (k count : ℕ) (rows : ℕ → ℕ) → k ≤ count → gather k (beyond count rows) ≡ 0
 unfolding gather
@@ -229,6 +238,10 @@ pub table-keeps : (count limit : ℕ) (table : List ℕ) (a x : ℕ) → count �
 unfolding keeps kept
 table-keeps count limit table a x h pa px =
     ap₂ _&&_ (ap (within limit) pa) (ap empty px) ∙ gathered-kept (length table) count limit (row table) h
+
+-- nothing lies beyond 64 rows
+pub beyond-64 : (t : List ℕ) → length t ≡ 64 → 0 ≡ gather (length t) (beyond 64 (row t))
+beyond-64 t e = sym (gather-front (length t) 64 (row t) (omega arith))
 
 -- the two tables of roles
 pub roles-keep : (steps people roles : ℕ) (allows holds : List ℕ) (named a b x y : ℕ) → named ≡ full roles

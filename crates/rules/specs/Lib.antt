@@ -3,6 +3,7 @@ pub mod Graph
 pub mod Gathered
 pub mod Move
 pub mod Laws
+pub mod Block
 pub mod Sound
 pub mod Entries
 pub mod Paper

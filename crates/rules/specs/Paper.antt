@@ -8,7 +8,7 @@ use lib.Dec.{eqb}
 use borrow.Author.Tests.{not-false}
 use Rattle.sets.specs.Sets.{has, single, union, meet, minus, empty}
 use Rattle.sets.specs.Laws.{has-union, has-meet, has-minus, has-single, empty-members, members-empty}
-use Rattle.rules.specs.declared.Graph.{Graph}
+use Rattle.rules.specs.Graph.{Graph}
 use Rattle.rules.specs.declared.Marking.{Marking}
 use Rattle.rules.specs.declared.Entry.{Entry}
 use Rattle.rules.specs.declared.Verdict.{Verdict}

@@ -14,7 +14,7 @@ use borrow.Author.Tests.{ltb-true, lt-ltb, le-ltb, not-false}
 use Rattle.sets.specs.Sets.{has, single, union, meet, minus, empty, within}
 use Rattle.sets.specs.Truth.{and-left, and-right, and-intro}
 use Rattle.sets.specs.Laws.{every-at, has-zero, union-lt, minus-lt, single-lt}
-use Rattle.rules.specs.declared.Graph.{Graph}
+use Rattle.rules.specs.Graph.{Graph}
 use Rattle.rules.specs.declared.Marking.{Marking}
 use Rattle.rules.specs.declared.Verdict.{Verdict}
 use Rattle.rules.specs.Graph.{row, keeps, setsFit, kindsApart, graphVerdict, conditionsOf, responsesOf, includesOf, excludesOf, rolesOf, rolesHeld}

@@ -1,19 +1,26 @@
 // The paper's Definitions 3 to 5 as document 01 reads them: graphs, markings, and taking a step.
 ghost use mathlib.Core.Path.{_≡_};
 ghost use Rattle.rules.specs.First.{toldOf};
-ghost use Rattle.rules.specs.Graph.{graphVerdict};
+ghost use Rattle.rules.specs.Graph.{graphOf, graphVerdict};
 ghost use Rattle.rules.specs.Move.{theMove, theEnding};
+use crate::inner::finished_on;
+use crate::inner::take_on;
+use crate::tables::arrows_checked;
+use crate::tables::counts_fit;
+use crate::tables::roles_fit;
 
 pub mod inner;
-pub mod lent;
+pub mod tables;
 
 // A step, counted from 0.
+#[repr(C)]
 pub struct Step(pub u8);
 
 // A step's rank in the tracker, counted from 1.
 pub struct Rank(pub u8);
 
 // A person takes a step in a role.
+#[repr(C)]
 pub struct Entry {
     pub person: u8,
     pub step: Step,
@@ -21,24 +28,35 @@ pub struct Entry {
 }
 
 // Three sets of steps: done before (Ex), due (Re), included (In).
+#[repr(C)]
 pub struct Marking {
     pub done: u64,
     pub due: u64,
     pub included: u64,
 }
 
-// A job. Row b of `conditions` is what b waits for; row a of the other three is what a points at. Rows beyond the counts are 0.
-pub struct Graph {
-    pub steps: u8,
-    pub people: u8,
-    pub roles: u8,
-    pub allows: [u16; 64],
-    pub holds: [u16; 16],
-    pub conditions: [u64; 64],
-    pub responses: [u64; 64],
-    pub includes: [u64; 64],
-    pub excludes: [u64; 64],
-}
+// A job: the counts of steps, people and roles, then the tables, each from its first word on. A set is a word.
+pub const CONDITIONS: usize = 3;
+
+pub const RESPONSES: usize = 67;
+
+pub const INCLUDES: usize = 131;
+
+pub const EXCLUDES: usize = 195;
+
+pub const ALLOWS: usize = 259;
+
+pub const HOLDS: usize = 323;
+
+pub const WORDS: usize = 339;
+
+pub type Job = [u64; WORDS];
+
+pub const NONE: Marking = Marking {
+    done: 0,
+    due: 0,
+    included: 0,
+};
 
 // The refusals of the whole house, in the order of document 01's table.
 pub enum Refusal {
@@ -139,55 +157,50 @@ pub fn tell(r: Refusal) -> Told
 }
 
 // Is this a graph as document 01 has it? Refusals 2, 4, 6.
-pub fn check(g: Graph) -> Verdict
-    ensures { λ r. ⌜ r ≡ graphVerdict g ⌝ }
+pub fn check(g: &Job) -> Verdict
+    ensures { λ r. ⌜ r ≡ graphVerdict (graphOf (now (g .entry))) ⌝ }
 {
-    lent::check(
-        &g.excludes,
-        &g.includes,
-        &g.responses,
-        &g.conditions,
-        &g.holds,
-        &g.allows,
-        g.steps,
-        g.people,
-        g.roles,
-    )
+    let steps = g[0];
+    let people = g[1];
+    let roles = g[2];
+    if !counts_fit(steps, people, roles) {
+        return Verdict::Refused(Refusal::Counts);
+    }
+    let w = &g[..];
+    let arrows = arrows_checked(
+        steps,
+        &w[CONDITIONS..RESPONSES],
+        &w[RESPONSES..INCLUDES],
+        &w[INCLUDES..EXCLUDES],
+        &w[EXCLUDES..ALLOWS],
+    );
+    if !(roles_fit(steps, people, roles, &w[ALLOWS..HOLDS], &w[HOLDS..WORDS]) & arrows.fit) {
+        return Verdict::Refused(Refusal::Beyond);
+    }
+    if !arrows.apart {
+        return Verdict::Refused(Refusal::Both);
+    }
+    Verdict::Clear
 }
 
 // Take one step. Refusals 2, 4, 6, 8, 11 to 15.
-pub fn take(g: Graph, m: Marking, e: Entry) -> Move
-    ensures { λ r. ⌜ r ≡ theMove g m e ⌝ }
+pub fn take(g: &Job, m: Marking, e: Entry) -> Move
+    ensures { λ r. ⌜ r ≡ theMove (graphOf (now (g .entry))) m e ⌝ }
 {
-    lent::take(
-        g.steps,
-        g.people,
-        g.roles,
-        &g.allows,
-        &g.holds,
-        &g.conditions,
-        &g.responses,
-        &g.includes,
-        &g.excludes,
-        m,
-        e,
-    )
+    let v = check(g);
+    if let Verdict::Refused(r) = v {
+        return Move::Refused(r, NONE);
+    }
+    take_on(g, m, e)
 }
 
 // Is the job finished: is no step both due and included? Refusals 2, 4, 6, 8.
-pub fn finished(g: Graph, m: Marking) -> Ending
-    ensures { λ r. ⌜ r ≡ theEnding g m ⌝ }
+pub fn finished(g: &Job, m: Marking) -> Ending
+    ensures { λ r. ⌜ r ≡ theEnding (graphOf (now (g .entry))) m ⌝ }
 {
-    lent::finished(
-        g.steps,
-        g.people,
-        g.roles,
-        &g.allows,
-        &g.holds,
-        &g.conditions,
-        &g.responses,
-        &g.includes,
-        &g.excludes,
-        m,
-    )
+    let v = check(g);
+    if let Verdict::Refused(r) = v {
+        return Ending::Refused(r);
+    }
+    finished_on(g[0], m)
 }

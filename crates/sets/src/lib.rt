@@ -43,19 +43,19 @@ pub fn subset(a: u64, b: u64) -> bool
 }
 
 // The steps below n.
-pub fn full(n: u8) -> u64
+pub fn full(n: u64) -> u64
     requires { ⌜ n ≤ 64 ⌝ }
     ensures { λ r. ⌜ r ≡ full n ⌝ }
 {
     if n == 0 {
         return 0;
     }
-    let top = single(n - 1);
+    let top = single((n - 1) as u8);
     top + (top - 1)
 }
 
 // Are all steps of x below n?
-pub fn within(n: u8, x: u64) -> bool
+pub fn within(n: u64, x: u64) -> bool
     requires { ⌜ n ≤ 64 ⌝ }
     ensures { λ r. ⌜ r ≡ within n x ⌝ }
 {

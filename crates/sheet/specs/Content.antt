@@ -9,13 +9,12 @@ use lib.Seq.{sets, sets-eq}
 use lib.Dec.{ltb}
 use borrow.Author.Tests.{not-false, lt-ltb, le-ltb}
 use Rattle.sets.specs.Truth.{and-left, and-right}
-use Rattle.rules.specs.declared.Graph.{Graph}
 use Rattle.rules.specs.declared.Marking.{Marking}
 use Rattle.rules.specs.declared.Verdict.{Verdict}
 use Rattle.rules.specs.declared.Refusal.{Refusal}
 use Rattle.rules.specs.declared.Refusal.the-variants.{Room}
 use Rattle.rules.specs.First.{first}
-use Rattle.rules.specs.Graph.{row, keeps, countsFit, setsFit, kindsApart}
+use Rattle.rules.specs.Graph.{Graph, row, keeps, countsFit, setsFit, kindsApart}
 use Rattle.rules.specs.Move.{markingFits}
 use Rattle.rules.specs.Laws.{Counted, counts-bound, first-clear, first-refused, clear-head, clear-tail}
 use Rattle.rules.specs.Sound.{Inside, fits-inside, keeps-row, keeps-gone}

@@ -1,5 +1,5 @@
 pub mod Sheet
 pub mod Judge
-pub mod Answer
+pub mod Filled
 pub mod Write
 pub mod Content

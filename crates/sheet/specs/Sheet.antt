@@ -4,17 +4,17 @@ use mathlib.Core.List.{List, [], _∷_, _++_}
 use mathlib.Core.Bool.{Bool, not, _&&_}
 use lib.ListN.{length, drop, replicate}
 use lib.Dec.{eqb, ltb, leb}
-use Rattle.rules.specs.declared.Graph.{Graph}
 use Rattle.rules.specs.declared.Marking.{Marking}
 use Rattle.rules.specs.declared.Verdict.{Verdict}
 use Rattle.rules.specs.declared.Refusal.the-variants.{Layout, Counts, Bodies, Beyond, Arrows, Both, Room}
 use Rattle.rules.specs.First.{Line, first, numberOf}
-use Rattle.rules.specs.Graph.{countsFit, setsFit, kindsApart}
+use Rattle.rules.specs.Graph.{Graph, countsFit, setsFit, kindsApart}
+use Rattle.rules.specs.Block.{blockOf}
 use Rattle.rules.specs.Move.{markingFits, noMarking}
 use Rattle.arrows.specs.Arrows.{Arrow, arrowsIn, arrowsFit, tableOf, spelt, arrowsOf, fourTables}
 use Rattle.layout.specs.Layout.{laid, contentsFit, sizeAt, bodyAt}
 use Rattle.bodies.specs.declared.Counts.{Counts as CountsOf}
-use Rattle.sheet.specs.declared.Sheet.{Sheet}
+use Rattle.sheet.specs.declared.Answer.{Answer}
 use Rattle.sheet.specs.declared.Written.{Written}
 use Rattle.bodies.specs.Bodies.{countsBody, countsIn, markingBody, markingIn, rolesBody, setsIn, roleSetsFit, quarter}
 
@@ -61,12 +61,9 @@ graphOf s =
       excludes = quarter (tableOf (arrowsOn s)) 192;
     }
 
--- the counts and the marking as lists, where they are lent as arrays
-abbrev pub countsList : List ℕ → List ℕ
-countsList s = countsOf s .steps ∷ countsOf s .people ∷ countsOf s .roles ∷ []
-
-abbrev pub firstList : List ℕ → List ℕ
-firstList s = firstOf s .done ∷ firstOf s .due ∷ firstOf s .included ∷ []
+-- the graph as the block that is lent
+abbrev pub blockRead : List ℕ → List ℕ
+blockRead s = blockOf (graphOf s)
 
 -- ---- the table for reading
 
@@ -130,7 +127,17 @@ noGraph =
       excludes = replicate 64 0;
     }
 
--- what reading answers
+-- what a sheet says. On a refusal the graph and the marking are all zeros
+pub record Sheet : Type 0 where
+  pub verdict : Verdict
+  pub graph : Graph
+  pub first : Marking
+
+-- what reading answers beside the block
+abbrev pub theAnswer : List ℕ → Answer
+theAnswer s = record { verdict = readVerdict s; first = ifClear (readVerdict s) (firstOf s) noMarking }
+
+-- and with the graph
 abbrev pub theSheet : List ℕ → Sheet
 theSheet s =
     record {

@@ -6,12 +6,11 @@ use mathlib.Core.Bool.{true, false}
 use native.Mathlib.Omega.{arith}
 use lib.ListN.{length, getD, length-append}
 use lib.Dec.{lit<}
-use Rattle.rules.specs.declared.Graph.{Graph}
 use Rattle.rules.specs.declared.Marking.{Marking}
 use Rattle.rules.specs.declared.Verdict.{Verdict}
 use Rattle.rules.specs.declared.Refusal.the-variants.{Counts, Beyond}
 use Rattle.rules.specs.First.{first}
-use Rattle.rules.specs.Graph.{row, countsFit, graphVerdict}
+use Rattle.rules.specs.Graph.{Graph, row, countsFit, graphVerdict}
 use Rattle.rules.specs.Move.{markingFits}
 use Rattle.arrows.specs.Arrows.{spelt}
 use Rattle.arrows.specs.Rows.{kindArrows, countOf}
@@ -33,6 +32,16 @@ sizesWritten n p count = 3 ∷ 24 ∷ 2 * n ∷ 2 * p ∷ 3 * count ∷ []
 
 abbrev pub bodiesWritten : ℕ → ℕ → ℕ → List ℕ → List ℕ → List ℕ → Marking → List ℕ
 bodiesWritten n p r allows holds arrows m = countsBody n p r ++ (markingBody m ++ (rolesBody n allows ++ (rolesBody p holds ++ arrows)))
+
+-- the same of a graph whose conditions are turned already
+abbrev pub countWith : Graph → List ℕ → ℕ
+countWith g t = arrowCount (g .steps) t (g .responses) (g .includes) (g .excludes)
+
+abbrev pub arrowsWith : Graph → List ℕ → List ℕ
+arrowsWith g t = arrowsWritten (g .steps) t (g .responses) (g .includes) (g .excludes)
+
+abbrev pub bodiesWith : Graph → List ℕ → Marking → List ℕ
+bodiesWith g t m = bodiesWritten (g .steps) (g .people) (g .roles) (g .allows) (g .holds) (arrowsWith g t) m
 
 pub length-arrows : (n : ℕ) (t r i x : List ℕ) → length (arrowsWritten n t r i x) ≡ 3 * arrowCount n t r i x
 length-arrows n t r i x =

@@ -1,20 +1,28 @@
-// The sheet of a graph and its first marking: the reader and the writer.
+// The sheet of a graph and its first marking: the reader and the writer. A graph is lent as one block.
 ghost use mathlib.Core.Path.{_≡_};
 ghost use lib.ListN.{length};
-ghost use Rattle.sheet.specs.Sheet.{theSheet, theWritten, roomAfter};
-use rules::Graph;
+ghost use Rattle.rules.specs.Graph.{graphOf};
+ghost use Rattle.sheet.specs.Sheet.{readVerdict, ifClear, blockRead, theAnswer, theWritten, roomAfter};
+use crate::reading::fill_block;
+use crate::refusals::judge;
+use crate::writing::arrow_count;
+use crate::writing::content;
+use crate::writing::fill;
+use rules::CONDITIONS;
+use rules::Job;
 use rules::Marking;
+use rules::NONE;
+use rules::RESPONSES;
 use rules::Refusal;
 use rules::Verdict;
 
-pub mod lent;
+pub mod reading;
 pub mod refusals;
 pub mod writing;
 
-// What a sheet says. On a refusal the graph and the marking are all zeros.
-pub struct Sheet {
+// What is against a sheet, and its first marking. On a refusal the marking is empty.
+pub struct Answer {
     pub verdict: Verdict,
-    pub graph: Graph,
     pub first: Marking,
 }
 
@@ -24,66 +32,44 @@ pub enum Written {
     Refused(Refusal),
 }
 
-// Reads a sheet. Refusals 1 to 6.
-pub fn read(s: &[u8]) -> Sheet
-    ensures { λ r. ⌜ r ≡ theSheet (now (s .entry)) ⌝ }
+// Reads a sheet into the block. Refusals 1 to 6; on a refusal the block stays as it is.
+pub fn read(s: &[u8], g: &mut Job) -> Answer
+    ensures { λ r. ⌜ r ≡ theAnswer (now (s .entry)) ⌝ }
+    ensures { λ r. ⌜ now (g .exit) ≡ ifClear (readVerdict (now (s .entry))) (blockRead (now (s .entry))) (now (g .entry)) ⌝ }
 {
-    let mut counts = [0u8; 3];
-    let mut allows = [0u16; 64];
-    let mut holds = [0u16; 16];
-    let mut conditions = [0u64; 64];
-    let mut responses = [0u64; 64];
-    let mut includes = [0u64; 64];
-    let mut excludes = [0u64; 64];
-    let mut marking = [0u64; 3];
-    let verdict = lent::read(
-        s,
-        &mut counts,
-        &mut allows,
-        &mut holds,
-        &mut conditions,
-        &mut responses,
-        &mut includes,
-        &mut excludes,
-        &mut marking,
-    );
-    Sheet {
-        verdict: verdict,
-        graph: Graph {
-            steps: counts[0],
-            people: counts[1],
-            roles: counts[2],
-            allows: allows,
-            holds: holds,
-            conditions: conditions,
-            responses: responses,
-            includes: includes,
-            excludes: excludes,
-        },
-        first: Marking {
-            done: marking[0],
-            due: marking[1],
-            included: marking[2],
-        },
+    let mut table = [0u64; 256];
+    let v = judge(s, &mut table);
+    if let Verdict::Refused(r) = v {
+        return Answer {
+            verdict: Verdict::Refused(r),
+            first: NONE,
+        };
+    }
+    let m = bodies::read_marking(layout::body(s, 1));
+    fill_block(s, &table, g);
+    Answer {
+        verdict: Verdict::Clear,
+        first: m,
     }
 }
 
-// Writes the sheet of a graph and its first marking. Refusals 2, 4, 6, 18.
-pub fn write(g: Graph, m: Marking, room: &mut [u8]) -> Written
-    ensures { λ r. ⌜ r ≡ theWritten g m (length (now (room .entry))) ⌝ }
-    ensures { λ r. ⌜ now (room .exit) ≡ roomAfter g m (now (room .entry)) ⌝ }
+// Writes the sheet of the graph and its first marking. Refusals 2, 4, 6, 18; on a refusal the room stays as it is.
+pub fn write(g: &Job, m: Marking, room: &mut [u8]) -> Written
+    ensures { λ r. ⌜ r ≡ theWritten (graphOf (now (g .entry))) m (length (now (room .entry))) ⌝ }
+    ensures { λ r. ⌜ now (room .exit) ≡ roomAfter (graphOf (now (g .entry))) m (now (room .entry)) ⌝ }
 {
-    lent::write(
-        g.steps,
-        g.people,
-        g.roles,
-        &g.allows,
-        &g.holds,
-        &g.conditions,
-        &g.responses,
-        &g.includes,
-        &g.excludes,
-        m,
-        room,
-    )
+    let v = content(g, m);
+    if let Verdict::Refused(r) = v {
+        return Written::Refused(r);
+    }
+    let steps = g[0];
+    let people = g[1];
+    let w = &g[..];
+    let turned = arrows::turned(steps as u8, &w[CONDITIONS..RESPONSES]);
+    let count = arrow_count(g, &turned);
+    let size = 53 + 2 * (steps as usize) + 2 * (people as usize) + 3 * count;
+    if room.len() < size {
+        return Written::Refused(Refusal::Room);
+    }
+    Written::Length(fill(g, &turned, m, count, room))
 }

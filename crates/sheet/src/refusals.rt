@@ -5,7 +5,7 @@ ghost use mathlib.Core.Bool.{true, _&&_};
 ghost use lib.ListN.{length, replicate};
 ghost use lib.Dec.{eqb};
 ghost use Rattle.sets.specs.Sets.{meet, empty, every};
-ghost use Rattle.rules.specs.Graph.{row, countsFit};
+ghost use Rattle.rules.specs.Graph.{row};
 ghost use Rattle.rules.specs.Move.{markingFits};
 ghost use Rattle.arrows.specs.Arrows.{tableOf};
 ghost use Rattle.layout.specs.Layout.{sizeAt, bodyAt};
@@ -31,23 +31,15 @@ fn layout_fits(s: &[u8]) -> bool
     (layout::size(s, 0) == 3) & (layout::size(s, 1) == 24) & (layout::size(s, 4) % 3 == 0)
 }
 
-pub fn counts_fit(c: Counts) -> bool
-    ensures { λ r. ⌜ r ≡ countsFit (c .steps) (c .people) (c .roles) ⌝ }
-{
-    ((1 <= c.steps) & (c.steps <= 64))
-        & ((1 <= c.people) & (c.people <= 16))
-        & ((1 <= c.roles) & (c.roles <= 16))
-}
-
 fn bodies_match(s: &[u8], c: Counts) -> bool
-    requires { ⌜ 26 ≤ length (now s) ⌝ }
+    requires { ⌜ (26 ≤ length (now s)) × (c .steps ≤ 64) × (c .people ≤ 16) ⌝ }
     ensures { λ r. ⌜ r ≡ (eqb (sizeAt (now (s .entry)) 2) (2 * c .steps) && eqb (sizeAt (now (s .entry)) 3) (2 * c .people)) ⌝ }
 {
     (layout::size(s, 2) == 2 * (c.steps as usize)) & (layout::size(s, 3) == 2 * (c.people as usize))
 }
 
 fn sets_inside(s: &[u8], c: Counts) -> bool
-    requires { ⌜ (c .steps ≤ 64) × (c .roles ≤ 16) × Placed (now s) × (sizeAt (now s) 2 ≡ 2 * c .steps) × (sizeAt (now s) 3 ≡ 2 * c .people) ⌝ }
+    requires { ⌜ (c .steps ≤ 64) × (c .people ≤ 16) × (c .roles ≤ 16) × Placed (now s) × (sizeAt (now s) 2 ≡ 2 * c .steps) × (sizeAt (now s) 3 ≡ 2 * c .people) ⌝ }
     ensures { λ r. ⌜ r ≡ (markingFits (c .steps) (firstOf (now (s .entry))) && roleSetsFit (c .roles) (bodyAt (now (s .entry)) 2) && roleSetsFit (c .roles) (bodyAt (now (s .entry)) 3)) ⌝ }
 {
     let m = bodies::read_marking(layout::body(s, 1));
@@ -57,7 +49,7 @@ fn sets_inside(s: &[u8], c: Counts) -> bool
 }
 
 // Is no arrow of the table both include and exclude?
-fn types_apart(steps: u8, table: &[u64; 256]) -> bool
+fn types_apart(steps: u64, table: &[u64; 256]) -> bool
     requires { ⌜ steps ≤ 64 ⌝ }
     ensures { λ r. ⌜ r ≡ typesApart steps (now (table .entry)) ⌝ }
 {
@@ -80,7 +72,7 @@ pub fn judge(s: &[u8], table: &mut [u64; 256]) -> Verdict
         return Verdict::Refused(Refusal::Layout);
     }
     let c = bodies::read_counts(layout::body(s, 0));
-    if !counts_fit(c) {
+    if !rules::tables::counts_fit(c.steps, c.people, c.roles) {
         return Verdict::Refused(Refusal::Counts);
     }
     if !bodies_match(s, c) {
@@ -89,7 +81,7 @@ pub fn judge(s: &[u8], table: &mut [u64; 256]) -> Verdict
     if !sets_inside(s, c) {
         return Verdict::Refused(Refusal::Beyond);
     }
-    if !arrows::read(layout::body(s, 4), c.steps, table) {
+    if !arrows::read(layout::body(s, 4), c.steps as u8, table) {
         return Verdict::Refused(Refusal::Arrows);
     }
     if !types_apart(c.steps, table) {

@@ -4,71 +4,49 @@ ghost use Prim.Native.Nat.{ℕ, _+_, _*_, _≤_};
 ghost use mathlib.Core.List.{[], _∷_, _++_};
 ghost use lib.ListN.{length};
 ghost use Rattle.rules.specs.First.{first};
-ghost use Rattle.rules.specs.Graph.{row, lentGraph};
+ghost use Rattle.rules.specs.Graph.{graphOf};
 ghost use Rattle.numbers.specs.Numbers.{Spliced};
 ghost use Rattle.layout.specs.Layout.{front};
 ghost use Rattle.sheet.specs.Sheet.{contentLines};
-ghost use Rattle.sheet.specs.Write.{arrowCount, arrowsWritten, sizesWritten, bodiesWritten};
-use crate::refusals::counts_fit;
-use bodies::Counts;
+ghost use Rattle.sheet.specs.Write.{countWith, arrowsWith, sizesWritten, bodiesWith};
+use rules::ALLOWS;
+use rules::EXCLUDES;
+use rules::HOLDS;
+use rules::INCLUDES;
+use rules::Job;
 use rules::Marking;
+use rules::RESPONSES;
 use rules::Refusal;
 use rules::Verdict;
+use rules::WORDS;
 
 // Refusals 2, 4, 6.
-pub fn content<'a>(
-    steps: u8,
-    people: u8,
-    roles: u8,
-    allows: &'a [u16; 64],
-    holds: &'a [u16; 16],
-    conditions: &'a [u64; 64],
-    responses: &'a [u64; 64],
-    includes: &'a [u64; 64],
-    excludes: &'a [u64; 64],
-    m: Marking,
-) -> Verdict
-    ensures { λ r. ⌜ r ≡ first (contentLines (lentGraph steps people roles (now (allows .entry)) (now (holds .entry)) (now (conditions .entry)) (now (responses .entry)) (now (includes .entry)) (now (excludes .entry))) m) ⌝ }
+pub fn content(g: &Job, m: Marking) -> Verdict
+    ensures { λ r. ⌜ r ≡ first (contentLines (graphOf (now (g .entry))) m) ⌝ }
 {
-    let c = Counts {
-        steps: steps,
-        people: people,
-        roles: roles,
-    };
-    if !counts_fit(c) {
+    let steps = g[0];
+    let people = g[1];
+    let roles = g[2];
+    if !rules::tables::counts_fit(steps, people, roles) {
         return Verdict::Refused(Refusal::Counts);
     }
     if !rules::inner::fits(steps, m) {
         return Verdict::Refused(Refusal::Beyond);
     }
-    rules::lent::check(
-        excludes,
-        includes,
-        responses,
-        conditions,
-        holds,
-        allows,
-        steps,
-        people,
-        roles,
-    )
+    rules::check(g)
 }
 
-// How many arrows there are.
-pub fn arrow_count<'a>(
-    n: u8,
-    turned: &'a [u64; 64],
-    responses: &'a [u64; 64],
-    includes: &'a [u64; 64],
-    excludes: &'a [u64; 64],
-) -> usize
-    requires { ⌜ n ≤ 64 ⌝ }
-    ensures { λ r. ⌜ (r ≡ arrowCount n (now (turned .entry)) (now (responses .entry)) (now (includes .entry)) (now (excludes .entry))) × (r ≤ 16384) ⌝ }
+// How many arrows there are. The conditions are turned already.
+pub fn arrow_count(g: &Job, turned: &[u64; 64]) -> usize
+    requires { ⌜ graphOf (now g) .steps ≤ 64 ⌝ }
+    ensures { λ r. ⌜ (r ≡ countWith (graphOf (now (g .entry))) (now (turned .entry))) × (r ≤ 16384) ⌝ }
 {
+    let n = g[0] as u8;
+    let w = &g[..];
     let a = arrows::count(n, turned);
-    let b = arrows::count(n, responses);
-    let c = arrows::count(n, includes);
-    let d = arrows::count(n, excludes);
+    let b = arrows::count(n, &w[RESPONSES..INCLUDES]);
+    let c = arrows::count(n, &w[INCLUDES..EXCLUDES]);
+    let d = arrows::count(n, &w[EXCLUDES..ALLOWS]);
     a + (b + (c + d))
 }
 
@@ -81,83 +59,42 @@ fn write_front(n: usize, p: usize, count: usize, room: &mut [u8]) -> usize
     layout::write(&sizes, room)
 }
 
-fn write_arrows<'a>(
-    n: u8,
-    turned: &'a [u64; 64],
-    responses: &'a [u64; 64],
-    includes: &'a [u64; 64],
-    excludes: &'a [u64; 64],
-    room: &mut [u8],
-    at: usize,
-) -> usize
-    requires { ⌜ (n ≤ 64) × (at + 3 * arrowCount n (now turned) (now responses) (now includes) (now excludes) ≤ length (now room)) ⌝ }
-    ensures { λ r. ⌜ Spliced (arrowsWritten n (now (turned .entry)) (now (responses .entry)) (now (includes .entry)) (now (excludes .entry))) at (now (room .entry)) (now (room .exit)) r ⌝ }
+fn write_arrows(g: &Job, turned: &[u64; 64], room: &mut [u8], at: usize) -> usize
+    requires { ⌜ (graphOf (now g) .steps ≤ 64) × (at + 3 * countWith (graphOf (now g)) (now turned) ≤ length (now room)) ⌝ }
+    ensures { λ r. ⌜ Spliced (arrowsWith (graphOf (now (g .entry))) (now (turned .entry))) at (now (room .entry)) (now (room .exit)) r ⌝ }
 {
+    let n = g[0] as u8;
+    let w = &g[..];
     let a = arrows::write(0, n, turned, room, at);
-    let b = arrows::write(1, n, responses, room, a);
-    let c = arrows::write(2, n, includes, room, b);
-    arrows::write(3, n, excludes, room, c)
+    let b = arrows::write(1, n, &w[RESPONSES..INCLUDES], room, a);
+    let c = arrows::write(2, n, &w[INCLUDES..EXCLUDES], room, b);
+    arrows::write(3, n, &w[EXCLUDES..ALLOWS], room, c)
 }
 
-fn write_bodies<'a>(
-    steps: u8,
-    people: u8,
-    roles: u8,
-    allows: &'a [u16; 64],
-    holds: &'a [u16; 16],
-    turned: &'a [u64; 64],
-    responses: &'a [u64; 64],
-    includes: &'a [u64; 64],
-    excludes: &'a [u64; 64],
-    m: Marking,
-    room: &mut [u8],
-    at: usize,
-) -> usize
-    requires { ⌜ (steps ≤ 64) × (people ≤ 16) × (at + (27 + 2 * steps + 2 * people + 3 * arrowCount steps (now turned) (now responses) (now includes) (now excludes)) ≤ length (now room)) ⌝ }
-    ensures { λ r. ⌜ Spliced (bodiesWritten steps people roles (now (allows .entry)) (now (holds .entry)) (arrowsWritten steps (now (turned .entry)) (now (responses .entry)) (now (includes .entry)) (now (excludes .entry))) m) at (now (room .entry)) (now (room .exit)) r ⌝ }
+fn write_bodies(g: &Job, turned: &[u64; 64], m: Marking, room: &mut [u8], at: usize) -> usize
+    requires { ⌜ (graphOf (now g) .steps ≤ 64) × (graphOf (now g) .people ≤ 16) × (at + (27 + 2 * graphOf (now g) .steps + 2 * graphOf (now g) .people + 3 * countWith (graphOf (now g)) (now turned)) ≤ length (now room)) ⌝ }
+    ensures { λ r. ⌜ Spliced (bodiesWith (graphOf (now (g .entry))) (now (turned .entry)) m) at (now (room .entry)) (now (room .exit)) r ⌝ }
 {
+    let steps = g[0];
+    let people = g[1];
+    let roles = g[2];
+    let w = &g[..];
     let a = bodies::write_counts(steps, people, roles, room, at);
     let b = bodies::write_marking(m, room, a);
     let n = steps as usize;
     let p = people as usize;
-    let c = bodies::write_roles(n, allows, room, b);
-    let d = bodies::write_roles(p, holds, room, c);
-    write_arrows(steps, turned, responses, includes, excludes, room, d)
+    let c = bodies::write_roles(n, &w[ALLOWS..HOLDS], room, b);
+    let d = bodies::write_roles(p, &w[HOLDS..WORDS], room, c);
+    write_arrows(g, turned, room, d)
 }
 
 // Writes the whole sheet from the start of the room, and gives its length. The conditions are turned already.
-pub fn fill<'a>(
-    steps: u8,
-    people: u8,
-    roles: u8,
-    allows: &'a [u16; 64],
-    holds: &'a [u16; 16],
-    turned: &'a [u64; 64],
-    responses: &'a [u64; 64],
-    includes: &'a [u64; 64],
-    excludes: &'a [u64; 64],
-    m: Marking,
-    count: usize,
-    room: &mut [u8],
-) -> usize
-    requires { ⌜ (steps ≤ 64) × (people ≤ 16) × (count ≡ arrowCount steps (now turned) (now responses) (now includes) (now excludes)) × (53 + 2 * steps + 2 * people + 3 * count ≤ length (now room)) ⌝ }
-    ensures { λ r. ⌜ Spliced (front (sizesWritten steps people count) ++ bodiesWritten steps people roles (now (allows .entry)) (now (holds .entry)) (arrowsWritten steps (now (turned .entry)) (now (responses .entry)) (now (includes .entry)) (now (excludes .entry))) m) 0 (now (room .entry)) (now (room .exit)) r ⌝ }
+pub fn fill(g: &Job, turned: &[u64; 64], m: Marking, count: usize, room: &mut [u8]) -> usize
+    requires { ⌜ (graphOf (now g) .steps ≤ 64) × (graphOf (now g) .people ≤ 16) × (count ≡ countWith (graphOf (now g)) (now turned)) × (53 + 2 * graphOf (now g) .steps + 2 * graphOf (now g) .people + 3 * count ≤ length (now room)) ⌝ }
+    ensures { λ r. ⌜ Spliced (front (sizesWritten (graphOf (now (g .entry)) .steps) (graphOf (now (g .entry)) .people) count) ++ bodiesWith (graphOf (now (g .entry))) (now (turned .entry)) m) 0 (now (room .entry)) (now (room .exit)) r ⌝ }
 {
-    let n = steps as usize;
-    let p = people as usize;
+    let n = g[0] as usize;
+    let p = g[1] as usize;
     let at = write_front(n, p, count, room);
-    write_bodies(
-        steps,
-        people,
-        roles,
-        allows,
-        holds,
-        turned,
-        responses,
-        includes,
-        excludes,
-        m,
-        room,
-        at,
-    )
+    write_bodies(g, turned, m, room, at)
 }

@@ -1,17 +1,36 @@
-// The tracker's rule on states, with no graph.
+// What is against graph and marking, and the tracker's rule on states.
 ghost use mathlib.Core.Path.{_≡_};
 ghost use Prim.Native.Nat.{_<_, _≤_};
-ghost use Rattle.tracker.specs.Tracker.{above, pool, begin, rest, trackAfter, isRank, meets};
+ghost use Rattle.rules.specs.First.{first};
+ghost use Rattle.rules.specs.Graph.{graphOf};
+ghost use Rattle.tracker.specs.Tracker.{above, pool, begin, rest, trackAfter, isRank, meets, startLines};
 use crate::Track;
+use rules::Job;
 use rules::Marking;
 use rules::Rank;
+use rules::Refusal;
 use rules::Step;
+use rules::Verdict;
+
+// What is against the graph and the marking. Refusals 2, 4, 6, 8.
+pub fn sound(g: &Job, m: Marking) -> Verdict
+    ensures { λ r. ⌜ r ≡ first (startLines (graphOf (now (g .entry))) m) ⌝ }
+{
+    let v = rules::check(g);
+    if let Verdict::Refused(r) = v {
+        return Verdict::Refused(r);
+    }
+    if !rules::inner::fits(g[0], m) {
+        return Verdict::Refused(Refusal::Outside);
+    }
+    Verdict::Clear
+}
 
 // Is this the rank of one of n steps?
-pub fn ranked(n: u8, i: Rank) -> bool
+pub fn ranked(n: u64, i: Rank) -> bool
     ensures { λ r. ⌜ r ≡ isRank n (i .0) ⌝ }
 {
-    (1 <= i.0) & (i.0 <= n)
+    (1 <= i.0) & (i.0 as u64 <= n)
 }
 
 // Those of p with rank above i.
@@ -19,7 +38,7 @@ pub fn above(i: Rank, p: u64) -> u64
     requires { ⌜ i .0 ≤ 64 ⌝ }
     ensures { λ r. ⌜ r ≡ above (i .0) p ⌝ }
 {
-    let passed = sets::full(i.0);
+    let passed = sets::full(i.0 as u64);
     p ^ (p & passed)
 }
 

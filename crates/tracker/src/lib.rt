@@ -1,14 +1,21 @@
 // The tracker of the paper's Definition 7: it sees to it that no due step waits for ever.
 ghost use mathlib.Core.Path.{_≡_};
+ghost use Rattle.rules.specs.Graph.{graphOf};
 ghost use Rattle.tracker.specs.Tracker.{theStart, theIdle, theStep};
+use crate::inner::begin;
+use crate::inner::follow;
+use crate::inner::ranked;
+use crate::inner::rest;
+use crate::inner::sound;
 use rules::Entry;
-use rules::Graph;
+use rules::Job;
 use rules::Marking;
+use rules::Move;
 use rules::Rank;
 use rules::Refusal;
+use rules::Verdict;
 
 pub mod inner;
-pub mod lent;
 
 // A marking, the rank that was served last, and the flag.
 pub struct Track {
@@ -25,56 +32,44 @@ pub enum Tracked {
 }
 
 // The state that a marking starts with. Refusals 2, 4, 6, 8.
-pub fn start(g: Graph, m: Marking) -> Tracked
-    ensures { λ r. ⌜ r ≡ theStart g m ⌝ }
+pub fn start(g: &Job, m: Marking) -> Tracked
+    ensures { λ r. ⌜ r ≡ theStart (graphOf (now (g .entry))) m ⌝ }
 {
-    lent::start(
-        g.steps,
-        g.people,
-        g.roles,
-        &g.allows,
-        &g.holds,
-        &g.conditions,
-        &g.responses,
-        &g.includes,
-        &g.excludes,
-        m,
-    )
+    let v = sound(g, m);
+    if let Verdict::Refused(r) = v {
+        return Tracked::Refused(r);
+    }
+    Tracked::At(begin(m))
 }
 
 // A move in which nothing is done. Refusals 2, 4, 6, 8, 9.
-pub fn idle(g: Graph, t: Track) -> Tracked
-    ensures { λ r. ⌜ r ≡ theIdle g t ⌝ }
+pub fn idle(g: &Job, t: Track) -> Tracked
+    ensures { λ r. ⌜ r ≡ theIdle (graphOf (now (g .entry))) t ⌝ }
 {
-    lent::idle(
-        g.steps,
-        g.people,
-        g.roles,
-        &g.allows,
-        &g.holds,
-        &g.conditions,
-        &g.responses,
-        &g.includes,
-        &g.excludes,
-        t,
-    )
+    let v = sound(g, t.marking);
+    if let Verdict::Refused(r) = v {
+        return Tracked::Refused(r);
+    }
+    if !ranked(g[0], t.rank) {
+        return Tracked::Refused(Refusal::NoRank);
+    }
+    Tracked::At(rest(t))
 }
 
 // Take one step. Refusals 2, 4, 6, 8, 9, 11 to 15.
-pub fn advance(g: Graph, t: Track, e: Entry) -> Tracked
-    ensures { λ r. ⌜ r ≡ theStep g t e ⌝ }
+pub fn advance(g: &Job, t: Track, e: Entry) -> Tracked
+    ensures { λ r. ⌜ r ≡ theStep (graphOf (now (g .entry))) t e ⌝ }
 {
-    lent::advance(
-        g.steps,
-        g.people,
-        g.roles,
-        &g.allows,
-        &g.holds,
-        &g.conditions,
-        &g.responses,
-        &g.includes,
-        &g.excludes,
-        t,
-        e,
-    )
+    let v = sound(g, t.marking);
+    if let Verdict::Refused(r) = v {
+        return Tracked::Refused(r);
+    }
+    if !ranked(g[0], t.rank) {
+        return Tracked::Refused(Refusal::NoRank);
+    }
+    let o = rules::inner::enter(g, t.marking, e);
+    match o {
+        Move::Refused(r, _) => Tracked::Stays(r, t),
+        Move::Moved(next) => Tracked::At(follow(t, next, e.step)),
+    }
 }

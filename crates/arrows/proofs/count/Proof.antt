@@ -26,15 +26,15 @@ cast-i c = search needs
 mul-many : tie.Need-mul-many Inv-loop μ-loop
 mul-many c = search needs
 
-element-copy-out-many : tie.Need-element-copy-out-many Inv-loop μ-loop
-element-copy-out-many c = search needs
+shared-slice-read-many : tie.Need-shared-slice-read-many Inv-loop μ-loop
+shared-slice-read-many c = search needs
 
 many-requires : tie.Need-many-requires Inv-loop μ-loop
 many-requires c κs = search needs
 
 add-found : tie.Need-add-found Inv-loop μ-loop
 add-found c =
-    let a = c .before .before .before .before .args in
+    let a = c .before .before .before .before .before .args in
     let l = c .before .before .before .loop in
     let most : countOf (l .a + 1) (row (a .rows .now)) ≤ 64 * (l .a + 1) = count-most (l .a + 1) (row (a .rows .now)) in
     let more : countOf (l .a + 1) (row (a .rows .now)) ≡ countOf (l .a) (row (a .rows .now)) + length (members (row (a .rows .now) (l .a))) = count-more (l .a) (row (a .rows .now)) in
@@ -48,13 +48,13 @@ loop-less c = search needs
 
 loop-again : tie.Need-loop-again Inv-loop μ-loop
 loop-again c =
-    let a = c .before .before .before .before .args in
+    let a = c .before .before .before .before .before .args in
     let l = c .before .before .before .loop in
     (search needs, ap₂ (λ (x y : ℕ). x + y) (l .inv .1) (c .many .ensures) ∙ sym (count-more (l .a) (row (a .rows .now))))
 
 returns : tie.Need-returns Inv-loop μ-loop
 returns c =
-    let a = c .before .before .args in
+    let a = c .before .before .before .args in
     let l = c .before .loop in
     l .inv .1 ∙ ap (λ (k : ℕ). countOf k (row (a .rows .now))) (let e : l .a ≡ a .n = omega arith in e)
 
@@ -67,7 +67,7 @@ count-spec =
     loop-holds
     cast-i
     mul-many
-    element-copy-out-many
+    shared-slice-read-many
     many-requires
     add-found
     add-a

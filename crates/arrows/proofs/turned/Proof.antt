@@ -28,8 +28,8 @@ cast-i c = search needs
 mul-spill : tie.Need-mul-spill Inv-loop μ-loop
 mul-spill c = search needs
 
-element-copy-out-spill : tie.Need-element-copy-out-spill Inv-loop μ-loop
-element-copy-out-spill c = search needs
+shared-slice-read-spill : tie.Need-shared-slice-read-spill Inv-loop μ-loop
+shared-slice-read-spill c = search needs
 
 spill-requires : tie.Need-spill-requires Inv-loop μ-loop
 spill-requires c κs = search needs
@@ -42,14 +42,14 @@ loop-less c = search needs
 
 loop-again : tie.Need-loop-again Inv-loop μ-loop
 loop-again c =
-    let a = c .before .before .before .before .before .args in
+    let a = c .before .before .before .before .before .before .args in
     let l = c .before .before .before .before .loop in
     (search needs, c .spill .ensures ∙ ap (λ (t : List ℕ). putAll t (rowArrows 0 (l .b) (row (a .rows .now) (l .b)))) (l .inv .1) ∙ turn-more (replicate 64 0) (l .b) (row (a .rows .now)))
 
 returns : tie.Need-returns Inv-loop μ-loop
 unfolding turned
 returns c =
-    let a = c .before .before .args in
+    let a = c .before .before .before .args in
     let l = c .before .loop in
     l .inv .1 ∙ ap (λ (k : ℕ). putAll (replicate 64 0) (kindArrows 0 k (row (a .rows .now)))) (let e : l .b ≡ a .n = omega arith in e)
 
@@ -62,7 +62,7 @@ turned-spec =
     loop-holds
     cast-i
     mul-spill
-    element-copy-out-spill
+    shared-slice-read-spill
     spill-requires
     add-b
     loop-less

@@ -21,7 +21,7 @@ abbrev μ-loop : tie.MeasureT-loop
 
 loop-holds : tie.Need-loop-holds Inv-loop μ-loop
 loop-holds c =
-    let a = c .before .args in
+    let a = c .before .before .args in
     (search needs, refl, kind-none (a .k) (a .at) (row (a .rows .now)) (a .room .now))
 
 cast-i : tie.Need-cast-i Inv-loop μ-loop
@@ -30,12 +30,12 @@ cast-i c = search needs
 mul-write-row : tie.Need-mul-write-row Inv-loop μ-loop
 mul-write-row c = search needs
 
-element-copy-out-write-row : tie.Need-element-copy-out-write-row Inv-loop μ-loop
-element-copy-out-write-row c = search needs
+shared-slice-read-write-row : tie.Need-shared-slice-read-write-row Inv-loop μ-loop
+shared-slice-read-write-row c = search needs
 
 write-row-requires : tie.Need-write-row-requires Inv-loop μ-loop
 write-row-requires c κs =
-    let a = c .before .before .before .before .before .args in
+    let a = c .before .before .before .before .before .before .args in
     let l = c .before .before .before .loop in
     let more : countOf (l .a + 1) (row (a .rows .now)) ≡ countOf (l .a) (row (a .rows .now)) + length (members (row (a .rows .now) (l .a))) = count-more (l .a) (row (a .rows .now)) in
     let most : countOf (l .a + 1) (row (a .rows .now)) ≤ countOf (a .n) (row (a .rows .now)) = count-mono (l .a) (a .n) (row (a .rows .now)) (c .before .before .loop-test .taken) in
@@ -51,7 +51,7 @@ loop-less c = search needs
 
 loop-again : tie.Need-loop-again Inv-loop μ-loop
 loop-again c =
-    let a = c .before .before .before .before .before .before .before .before .args in
+    let a = c .before .before .before .before .before .before .before .before .before .args in
     let l = c .before .before .before .before .before .before .loop in
     (search needs, spliced-length _ _ _ _ _ (c .before .before .write-row .ensures) ∙ l .inv .1, kind-more (a .k) (l .a) (a .at) (row (a .rows .now)) (a .room .now) (l .room) _ (l .to) _ (l .inv .2) (c .before .before .write-row .ensures))
 
@@ -60,7 +60,7 @@ same-length c = c .before .loop .inv .1
 
 returns : tie.Need-returns Inv-loop μ-loop
 returns c =
-    let a = c .before .before .before .args in
+    let a = c .before .before .before .before .args in
     let l = c .before .loop in
     subst (λ (k : ℕ). Spliced (spelt (kindArrows (a .k) k (row (a .rows .now)))) (a .at) (a .room .now) (l .room) (l .to)) (let e : l .a ≡ a .n = omega arith in e) (l .inv .2)
 
@@ -73,7 +73,7 @@ write-spec =
     loop-holds
     cast-i
     mul-write-row
-    element-copy-out-write-row
+    shared-slice-read-write-row
     write-row-requires
     add-a
     loop-less

@@ -1,5 +1,5 @@
--- `read_roles`: the table is filled from the front. Assumes nothing.
-use Prim.Native.Nat.{ℕ, _-_, _≤_}
+-- `read_roles`: the block is filled from `at` on. Assumes nothing.
+use Prim.Native.Nat.{ℕ, _+_, _-_, _≤_}
 use mathlib.Core.Path.{_≡_, refl, ap, ap₂, _∙_}
 use mathlib.Core.List.{List}
 use native.Mathlib.Omega.{arith}
@@ -12,10 +12,10 @@ use Rattle.bodies.proofs.read_roles.Statement.{statement}
 use Rattle.bodies.proofs.read_roles.Tie as tie
 
 abbrev Inv-loop : tie.InvT-loop
-Inv-loop body table₀ i₀ table i = (i ≤ length table₀) × (length table ≡ length table₀) × (table ≡ sets table₀ 0 (tabled i (setAt body)))
+Inv-loop body count block₀ at i₀ block i = (i ≤ count) × (length block ≡ length block₀) × (block ≡ sets block₀ at (tabled i (setAt body)))
 
 abbrev μ-loop : tie.MeasureT-loop
-μ-loop body table₀ i₀ table i = length table₀ - i
+μ-loop body count block₀ at i₀ block i = count - i
 
 loop-holds : tie.Need-loop-holds Inv-loop μ-loop
 unfolding tabled
@@ -24,11 +24,17 @@ loop-holds c = (search needs, refl, refl)
 role-set-requires : tie.Need-role-set-requires Inv-loop μ-loop
 role-set-requires c κs = search needs
 
-mul-table : tie.Need-mul-table Inv-loop μ-loop
-mul-table c = search needs
+cast-block : tie.Need-cast-block Inv-loop μ-loop
+cast-block c = search needs
 
-slice-write-table : tie.Need-slice-write-table Inv-loop μ-loop
-slice-write-table c = search needs
+add-block : tie.Need-add-block Inv-loop μ-loop
+add-block c = search needs
+
+mul-block : tie.Need-mul-block Inv-loop μ-loop
+mul-block c = search needs
+
+slice-write-block : tie.Need-slice-write-block Inv-loop μ-loop
+slice-write-block c = search needs
 
 add-i : tie.Need-add-i Inv-loop μ-loop
 add-i c = search needs
@@ -40,7 +46,10 @@ loop-again : tie.Need-loop-again Inv-loop μ-loop
 loop-again c =
     let a = c .before .before .before .before .before .args in
     let l = c .before .before .loop in
-    (search needs, simp length-set (l .inv .1), ap₂ (λ (t : List ℕ) (x : ℕ). set t (l .i) x) (l .inv .2) (c .role-set .ensures) ∙ fill-more (a .table .now) (l .i) (setAt (a .body .now)))
+    (search needs, simp length-set (l .inv .1), ap₂ (λ (t : List ℕ) (x : ℕ). set t (a .at + l .i) x) (l .inv .2) (c .role-set .ensures) ∙ fill-more (a .block .now) (a .at) (l .i) (setAt (a .body .now)))
+
+add-result : tie.Need-add-result Inv-loop μ-loop
+add-result c = search needs
 
 same-length : tie.Need-same-length Inv-loop μ-loop
 same-length c = c .before .loop .inv .1
@@ -49,7 +58,7 @@ returns : tie.Need-returns Inv-loop μ-loop
 returns c =
     let a = c .before .before .before .before .args in
     let l = c .before .loop in
-    l .inv .2 ∙ ap (λ (k : ℕ). sets (a .table .now) 0 (tabled k (setAt (a .body .now)))) (let e : l .i ≡ length (a .table .now) = omega arith in e) ∙ fill-done (a .table .now) (length (a .table .now)) (setAt (a .body .now)) refl
+    fill-done (a .block .now) (l .block) (a .at) (l .i) (a .count) (setAt (a .body .now)) (let e : l .i ≡ a .count = omega arith in e) (l .inv .2)
 
 pub read-roles-spec : {M : Type 1} → statement M
 read-roles-spec =
@@ -59,10 +68,13 @@ read-roles-spec =
     μ-loop
     loop-holds
     role-set-requires
-    mul-table
-    slice-write-table
+    cast-block
+    add-block
+    mul-block
+    slice-write-block
     add-i
     loop-less
     loop-again
+    add-result
     same-length
     returns)

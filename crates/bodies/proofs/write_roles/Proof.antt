@@ -28,9 +28,6 @@ mul-put c = search needs
 shared-slice-read-put : tie.Need-shared-slice-read-put Inv-loop μ-loop
 shared-slice-read-put c = search needs
 
-cast-put : tie.Need-cast-put Inv-loop μ-loop
-cast-put c = omega (arith, c .shared-slice-known2 .given (c .before .before .loop .i))
-
 put-requires : tie.Need-put-requires Inv-loop μ-loop
 put-requires c κs =
     let a = c .before .before .before .before .before .before .args in
@@ -69,7 +66,6 @@ write-roles-spec =
     loop-holds
     mul-put
     shared-slice-read-put
-    cast-put
     put-requires
     add-i
     loop-less

@@ -17,6 +17,9 @@ returns c = sym (ap full (c .if1 .taken))
 sub-single : tie.Need-sub-single
 sub-single c = search needs
 
+cast-single : tie.Need-cast-single
+cast-single c = search needs
+
 single-requires : tie.Need-single-requires
 single-requires c κs = search needs
 
@@ -36,4 +39,4 @@ returns-2 c =
     ∙ ap full (let z : n - 1 + 1 ≡ n = ne-cases n 0 (n - 1 + 1 ≡ n) (c .before .if1 .left) (λ h. absurd (not-suc-le-zero h)) (λ h. omega arith) in z)
 
 pub full-spec : {M : Type 1} → statement M
-full-spec = tie.close (tie.spec returns sub-single single-requires sub-result add-result returns-2)
+full-spec = tie.close (tie.spec returns sub-single cast-single single-requires sub-result add-result returns-2)

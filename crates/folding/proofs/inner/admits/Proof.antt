@@ -5,11 +5,11 @@ use Rattle.sets.specs.Laws.{has-meet}
 use Rattle.folding.proofs.inner.admits.Statement.{statement}
 use Rattle.folding.proofs.inner.admits.Tie as tie
 
-has-role-requires : tie.Need-has-role-requires
-has-role-requires c κs = search needs
+has-requires : tie.Need-has-requires
+has-requires c κs = search needs
 
 returns : tie.Need-returns
-returns c = c .has-role .ensures ∙ has-meet (c .before .before .args .w .held) (c .before .before .args .w .allows) (c .before .before .args .role)
+returns c = c .has .ensures ∙ has-meet (c .before .before .args .w .held) (c .before .before .args .w .allows) (c .before .before .args .role)
 
 pub admits-spec : {M : Type 1} → statement M
-admits-spec = tie.close (tie.spec has-role-requires returns)
+admits-spec = tie.close (tie.spec has-requires returns)

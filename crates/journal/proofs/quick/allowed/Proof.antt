@@ -9,9 +9,8 @@ use lib.Dec.{eqb}
 use borrow.Author.Needs.{needs}
 use borrow.Author.Tests.{not-true, not-false, eq-eqb, ne-eqb}
 use Rattle.sets.specs.Sets.{has, single, meet}
-use Rattle.rules.specs.declared.Graph.{Graph}
 use Rattle.rules.specs.declared.inner.Row.{Row}
-use Rattle.rules.specs.Graph.{row, lentGraph, rolesHeld, rolesOf}
+use Rattle.rules.specs.Graph.{Graph, row, graphOf, rolesHeld, rolesOf}
 use Rattle.rules.specs.Move.{isIncluded, waitsFor}
 use Rattle.journal.specs.Allowed.{unknown-person-role, unknown-step, without-role, not-included, role-left}
 use Rattle.journal.specs.Singles.{single-asked}
@@ -21,14 +20,14 @@ use Rattle.journal.proofs.quick.allowed.Tie as tie
 returns : tie.Need-returns
 returns c =
     let a = c .before .args in
-    let g : Graph = lentGraph (a .steps) (a .people) (a .roles) (a .allows .now) (a .holds .now) (a .conditions .now) (a .responses .now) (a .includes .now) (a .excludes .now) in
+    let g : Graph = graphOf (a .g .now) in
     let e = a .e in
     sym (unknown-person-role g (a .m) e (c .before .pre .0) (c .if1 .taken))
 
 returns-2 : tie.Need-returns-2
 returns-2 c =
     let a = c .before .before .args in
-    let g : Graph = lentGraph (a .steps) (a .people) (a .roles) (a .allows .now) (a .holds .now) (a .conditions .now) (a .responses .now) (a .includes .now) (a .excludes .now) in
+    let g : Graph = graphOf (a .g .now) in
     let e = a .e in
     sym (unknown-step g (a .m) e (c .before .before .pre .0) (c .if2 .taken))
 
@@ -37,17 +36,17 @@ row-at-requires c κs =
     let e = c .before .before .args .e in
     omega (arith, or-add-and (e .person) (e .role), and-le-r (e .person) (e .role))
 
-has-role-requires : tie.Need-has-role-requires
-has-role-requires c κs =
+has-requires : tie.Need-has-requires
+has-requires c κs =
     let e = c .before .before .before .before .args .e in
     omega (arith, or-add-and (e .person) (e .role), and-le-l (e .person) (e .role))
 
 returns-3 : tie.Need-returns-3
 returns-3 c =
     let a = c .before .before .before .before .before .before .args in
-    let g : Graph = lentGraph (a .steps) (a .people) (a .roles) (a .allows .now) (a .holds .now) (a .conditions .now) (a .responses .now) (a .includes .now) (a .excludes .now) in
+    let g : Graph = graphOf (a .g .now) in
     let e = a .e in
-    let out : has (meet (rolesHeld g (e .person)) (rolesOf g (e .step .0))) (e .role) ≡ false = ap (λ (w : Row). has (meet (w .held) (w .allows)) (e .role)) (sym (c .before .before .before .row-at .ensures)) ∙ sym (c .before .has-role .ensures) ∙ not-true _ (c .if3 .taken) in
+    let out : has (meet (rolesHeld g (e .person)) (rolesOf g (e .step .0))) (e .role) ≡ false = ap (λ (w : Row). has (meet (w .held) (w .allows)) (e .role)) (sym (c .before .before .before .row-at .ensures)) ∙ sym (c .before .has .ensures) ∙ not-true _ (c .if3 .taken) in
     sym (without-role g (a .m) e out)
 
 cast-i : tie.Need-cast-i
@@ -62,7 +61,7 @@ element-copy-out-if4 c = search needs
 returns-4 : tie.Need-returns-4
 returns-4 c =
     let a = c .before .before .before .before .before .before .before .before .before .args in
-    let g : Graph = lentGraph (a .steps) (a .people) (a .roles) (a .allows .now) (a .holds .now) (a .conditions .now) (a .responses .now) (a .includes .now) (a .excludes .now) in
+    let g : Graph = graphOf (a .g .now) in
     let e = a .e in
     let here : row (a .singles .now) (e .step .0) ≡ single (e .step .0) = c .before .before .before .before .before .before .before .before .before .pre .1 (e .step .0) (c .before .before .before .before .before .before .before .if2 .left) in
     let out : isIncluded (a .m) e ≡ false = not-true _ (sym (single-asked (a .m .included) (e .step .0)) ∙ eq-eqb _ 0 (ap (meet (a .m .included)) (sym here) ∙ c .if4 .taken)) in
@@ -74,9 +73,9 @@ waits-requires c κs = search needs
 returns-5 : tie.Need-returns-5
 returns-5 c =
     let a = c .before .before .before .before .before .before .before .before .before .before .args in
-    let g : Graph = lentGraph (a .steps) (a .people) (a .roles) (a .allows .now) (a .holds .now) (a .conditions .now) (a .responses .now) (a .includes .now) (a .excludes .now) in
+    let g : Graph = graphOf (a .g .now) in
     let e = a .e in
-    let both : has (meet (rolesHeld g (e .person)) (rolesOf g (e .step .0))) (e .role) ≡ true = ap (λ (w : Row). has (meet (w .held) (w .allows)) (e .role)) (sym (c .before .before .before .before .before .before .before .row-at .ensures)) ∙ sym (c .before .before .before .before .before .has-role .ensures) ∙ not-false _ (c .before .before .before .before .if3 .left) in
+    let both : has (meet (rolesHeld g (e .person)) (rolesOf g (e .step .0))) (e .role) ≡ true = ap (λ (w : Row). has (meet (w .held) (w .allows)) (e .role)) (sym (c .before .before .before .before .before .before .before .row-at .ensures)) ∙ sym (c .before .before .before .before .before .has .ensures) ∙ not-false _ (c .before .before .before .before .if3 .left) in
     let here : row (a .singles .now) (e .step .0) ≡ single (e .step .0) = c .before .before .before .before .before .before .before .before .before .before .pre .1 (e .step .0) (c .before .before .before .before .before .before .before .before .if2 .left) in
     let included : isIncluded (a .m) e ≡ true = not-false _ (sym (single-asked (a .m .included) (e .step .0)) ∙ ne-eqb _ 0 (λ q. c .before .if4 .left (ap (meet (a .m .included)) here ∙ q))) in
     ap (λ (x : ℕ). eqb x 0) (c .waits .ensures ∙ ap (λ (w : Row). waitsFor (w .conditions) (a .m)) (c .before .before .before .before .before .before .before .row-at .ensures)) ∙ sym (role-left g (a .m) e (c .before .before .before .before .before .before .before .before .before .before .pre .0) both included)
@@ -88,7 +87,7 @@ allowed-spec =
     returns
     returns-2
     row-at-requires
-    has-role-requires
+    has-requires
     returns-3
     cast-i
     mul-if4

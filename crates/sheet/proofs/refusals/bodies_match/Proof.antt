@@ -6,32 +6,18 @@ use Rattle.sheet.proofs.refusals.bodies_match.Tie as tie
 size-requires : tie.Need-size-requires
 size-requires c κs = search needs
 
-cast-result : tie.Need-cast-result
-cast-result c = search needs
-
 mul-result : tie.Need-mul-result
 mul-result c = search needs
 
 size-requires-2 : tie.Need-size-requires-2
 size-requires-2 c κs = search needs
 
-cast-result-2 : tie.Need-cast-result-2
-cast-result-2 c = search needs
-
 mul-result-2 : tie.Need-mul-result-2
 mul-result-2 c = search needs
 
 returns : tie.Need-returns
-returns c = simp (c .before .before .before .size .ensures .0, c .before .size2 .ensures .0)
+returns c = simp (c .before .size .ensures .0, c .size2 .ensures .0)
 
 pub bodies-match-spec : {M : Type 1} → statement M
 bodies-match-spec =
-    tie.close
-    (tie.spec
-    size-requires
-    cast-result
-    mul-result
-    size-requires-2
-    cast-result-2
-    mul-result-2
-    returns)
+    tie.close (tie.spec size-requires mul-result size-requires-2 mul-result-2 returns)

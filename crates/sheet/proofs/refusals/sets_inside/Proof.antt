@@ -13,14 +13,14 @@ use Rattle.sheet.proofs.refusals.sets_inside.Tie as tie
 body-requires : tie.Need-body-requires
 body-requires c κs =
     let a = c .before .args in
-    let p : Placed (a .s .now) = c .before .pre .2 in
+    let p : Placed (a .s .now) = c .before .pre .3 in
     let long : 29 ≤ length (a .s .now) = p .long in
     (omega arith, p .inside 1 (lit< tt))
 
 read-marking-requires : tie.Need-read-marking-requires
 read-marking-requires c κs =
     let a = c .before .before .args in
-    let p : Placed (a .s .now) = c .before .before .pre .2 in
+    let p : Placed (a .s .now) = c .before .before .pre .3 in
     let n : length (bodyAt (a .s .now) 1) ≡ 24 = body-length (a .s .now) p 1 (lit< tt) ∙ p .two in
     omega (arith, ap length (c .body .ensures))
 
@@ -30,29 +30,29 @@ fits-requires c κs = search needs
 body-requires-2 : tie.Need-body-requires-2
 body-requires-2 c κs =
     let a = c .before .before .before .before .args in
-    let p : Placed (a .s .now) = c .before .before .before .before .pre .2 in
+    let p : Placed (a .s .now) = c .before .before .before .before .pre .3 in
     let long : 29 ≤ length (a .s .now) = p .long in
     (omega arith, p .inside 2 (lit< tt))
 
 role-sets-fit-requires : tie.Need-role-sets-fit-requires
 role-sets-fit-requires c κs =
     let a = c .before .before .before .before .before .args in
-    let p : Placed (a .s .now) = c .before .before .before .before .before .pre .2 in
-    let n : length (bodyAt (a .s .now) 2) ≡ 2 * a .c .steps = body-length (a .s .now) p 2 (lit< tt) ∙ c .before .before .before .before .before .pre .3 in
+    let p : Placed (a .s .now) = c .before .before .before .before .before .pre .3 in
+    let n : length (bodyAt (a .s .now) 2) ≡ 2 * a .c .steps = body-length (a .s .now) p 2 (lit< tt) ∙ c .before .before .before .before .before .pre .4 in
     omega (arith, ap length (c .body2 .ensures))
 
 body-requires-3 : tie.Need-body-requires-3
 body-requires-3 c κs =
     let a = c .before .before .before .before .before .before .args in
-    let p : Placed (a .s .now) = c .before .before .before .before .before .before .pre .2 in
+    let p : Placed (a .s .now) = c .before .before .before .before .before .before .pre .3 in
     let long : 29 ≤ length (a .s .now) = p .long in
     (omega arith, p .inside 3 (lit< tt))
 
 role-sets-fit-requires-2 : tie.Need-role-sets-fit-requires-2
 role-sets-fit-requires-2 c κs =
     let a = c .before .before .before .before .before .before .before .args in
-    let p : Placed (a .s .now) = c .before .before .before .before .before .before .before .pre .2 in
-    let n : length (bodyAt (a .s .now) 3) ≡ 2 * a .c .people = body-length (a .s .now) p 3 (lit< tt) ∙ c .before .before .before .before .before .before .before .pre .4 in
+    let p : Placed (a .s .now) = c .before .before .before .before .before .before .before .pre .3 in
+    let n : length (bodyAt (a .s .now) 3) ≡ 2 * a .c .people = body-length (a .s .now) p 3 (lit< tt) ∙ c .before .before .before .before .before .before .before .pre .5 in
     omega (arith, ap length (c .body3 .ensures))
 
 returns : tie.Need-returns

@@ -3,6 +3,9 @@ use borrow.Author.Needs.{needs}
 use Rattle.tracker.proofs.inner.above.Statement.{statement}
 use Rattle.tracker.proofs.inner.above.Tie as tie
 
+cast-full : tie.Need-cast-full
+cast-full c = search needs
+
 full-requires : tie.Need-full-requires
 full-requires c κs = search needs
 
@@ -10,4 +13,4 @@ returns : tie.Need-returns
 returns c = simp (c .full .ensures)
 
 pub above-spec : {M : Type 1} → statement M
-above-spec = tie.close (tie.spec full-requires returns)
+above-spec = tie.close (tie.spec cast-full full-requires returns)

@@ -1,0 +1,124 @@
+-- `run_entries`: the run of the whole journal is at each turn of the loop the run from entry k on, in the marking at hand. Assumes nothing.
+use Prim.Native.Nat.{_+_, _*_, _-_, _/_, _≤_}
+use mathlib.Core.Path.{_≡_, sym, _∙_, refl, ap}
+use mathlib.Core.Bool.{true, false}
+use native.Mathlib.Omega.{arith}
+use lib.ListN.{length, drop}
+use borrow.Author.Needs.{needs}
+use borrow.Author.Tests.{not-true, not-false}
+use Rattle.rules.specs.declared.Marking.{Marking}
+use Rattle.rules.specs.declared.Entry.{Entry}
+use Rattle.rules.specs.declared.Move.{Move}
+use Rattle.rules.specs.Graph.{Graph, graphOf}
+use Rattle.rules.specs.Move.{entryMove}
+use Rattle.rules.specs.Laws.{Counted, clear-counts}
+use Rattle.journal.specs.declared.Ran.{Ran}
+use Rattle.journal.specs.Journal.{entries, entryAt}
+use Rattle.journal.specs.Run.{runOn, goOn}
+use Rattle.journal.specs.Allowed.{Named, isAllowed, allowed-named, allowed-moved}
+use Rattle.journal.specs.Singles.{singles-all}
+use Rattle.journal.specs.Laws.{run-moved, run-stopped, run-ended}
+use Rattle.journal.proofs.run_entries.Statement.{statement}
+use Rattle.journal.proofs.run_entries.Tie as tie
+
+abbrev Inv-loop : tie.InvT-loop
+Inv-loop g j singles count at₀ k₀ at k =
+    (count * 3 ≡ length j) × (length j ≤ 65535) × (k ≤ count)
+    × (runOn (graphOf g) at₀ 0 (entries j)
+    ≡ runOn (graphOf g) at k (entries (drop (3 * k) j)))
+
+abbrev μ-loop : tie.MeasureT-loop
+μ-loop g j singles count at₀ k₀ at k =
+    count - k
+
+loop-holds : tie.Need-loop-holds Inv-loop μ-loop
+loop-holds c = (search needs, search needs, search needs, refl)
+
+entry-at-requires : tie.Need-entry-at-requires Inv-loop μ-loop
+entry-at-requires c κs = search needs
+
+allowed-requires : tie.Need-allowed-requires Inv-loop μ-loop
+allowed-requires c κs = (c .before .before .before .before .before .pre .0, singles-all)
+
+cast-index : tie.Need-cast-index Inv-loop μ-loop
+cast-index c = search needs
+
+refused-requires : tie.Need-refused-requires Inv-loop μ-loop
+refused-requires c κs =
+    let a = c .before .before .before .before .before .before .before .args in
+    let g : Graph = graphOf (a .g .now) in
+    let b : Counted (g .steps) (g .people) (g .roles) = clear-counts g (c .before .before .before .before .before .before .before .pre .0) in
+    (b .steps-most, b .people-most, b .roles-most)
+
+returns : tie.Need-returns Inv-loop μ-loop
+returns c =
+    let a = c .before .before .before .before .before .before .before .before .args in
+    let l = c .before .before .before .before .before .before .loop in
+    let g : Graph = graphOf (a .g .now) in
+    let j = a .j .now in
+    let room : 3 * (l .k) + 3 ≤ length j = omega arith in
+    let out : isAllowed g (l .at) (entryAt j (l .k)) ≡ false = ap (isAllowed g (l .at)) (sym (c .before .before .before .before .entry-at .ensures)) ∙ sym (c .before .before .allowed .ensures) ∙ not-true _ (c .before .if1 .taken) in
+    c .refused .ensures
+    ∙ ap (λ (e : Entry). goOn (l .k) (l .at) (entryMove g (l .at) e) (λ next. Ran.Ended next (l .k))) (c .before .before .before .before .entry-at .ensures)
+    ∙ sym (l .inv .3 ∙ run-stopped g (l .at) j (l .k) room out)
+
+taken-requires : tie.Need-taken-requires Inv-loop μ-loop
+taken-requires c κs =
+    let a = c .before .before .before .before .before .before .before .args in
+    let g : Graph = graphOf (a .g .now) in
+    let b : Counted (g .steps) (g .people) (g .roles) = clear-counts g (c .before .before .before .before .before .before .before .pre .0) in
+    let n : Named g (c .before .before .before .entry-at .result) = allowed-named g (c .before .before .before .before .before .loop .at) (c .before .before .before .entry-at .result) (sym (c .before .allowed .ensures) ∙ not-false _ (c .if1 .left)) in
+    (omega arith, omega arith)
+
+add-k : tie.Need-add-k Inv-loop μ-loop
+add-k c = search needs
+
+loop-less : tie.Need-loop-less Inv-loop μ-loop
+loop-less c = search needs
+
+loop-again : tie.Need-loop-again Inv-loop μ-loop
+loop-again c =
+    let a = c .before .before .before .before .before .before .before .before .args in
+    let l = c .before .before .before .before .before .before .loop in
+    let g : Graph = graphOf (a .g .now) in
+    let j = a .j .now in
+    let room : 3 * (l .k) + 3 ≤ length j = omega arith in
+    let ok : isAllowed g (l .at) _ ≡ true = sym (c .before .before .allowed .ensures) ∙ not-false _ (c .before .if1 .left) in
+    let told : entryMove g (l .at) (entryAt j (l .k)) ≡ Move.Moved _ = ap (entryMove g (l .at)) (sym (c .before .before .before .before .entry-at .ensures)) ∙ allowed-moved g (l .at) _ ok in (
+      search needs,
+      search needs,
+      search needs,
+      l .inv .3 ∙ run-moved g (l .at) _ j (l .k) room told ∙ ap (λ (n : Marking). runOn g n (l .k + 1) (entries (drop (3 * (l .k + 1)) j))) (sym (c .taken .ensures)),
+    )
+
+cast-number : tie.Need-cast-number Inv-loop μ-loop
+cast-number c = search needs
+
+returns-2 : tie.Need-returns-2 Inv-loop μ-loop
+returns-2 c =
+    let a = c .before .before .before .args in
+    let l = c .before .loop in
+    let g : Graph = graphOf (a .g .now) in
+    let j = a .j .now in
+    let past : length j ≤ 3 * (l .k) = omega arith in
+    let all : l .k ≡ length j / 3 = omega arith in
+    sym (l .inv .3 ∙ run-ended g (l .at) j (l .k) past ∙ ap (Ran.Ended (l .at)) all)
+
+pub run-entries-spec : {M : Type 1} → statement M
+run-entries-spec =
+    tie.close
+    (tie.spec
+    Inv-loop
+    μ-loop
+    loop-holds
+    entry-at-requires
+    allowed-requires
+    cast-index
+    refused-requires
+    returns
+    taken-requires
+    add-k
+    loop-less
+    loop-again
+    cast-number
+    returns-2)

@@ -1,0 +1,81 @@
+-- `inner::enter`: an entry whose numbers are known goes by its row. Assumes nothing.
+use mathlib.Core.Path.{_≡_, sym, _∙_, ap}
+use mathlib.Core.Bool.{true, false}
+use borrow.Author.Tests.{lt-ltb, le-ltb}
+use Rattle.rules.specs.declared.inner.Row.{Row}
+use Rattle.rules.specs.First.{first}
+use Rattle.rules.specs.Graph.{Graph, graphOf}
+use Rattle.rules.specs.Move.{known, moveOf, rowLines, after}
+use Rattle.rules.specs.Laws.{entry-unknown, entry-known}
+use borrow.Author.Needs.{needs}
+use Rattle.rules.proofs.inner.enter.Statement.{statement}
+use Rattle.rules.proofs.inner.enter.Tie as tie
+
+element-copy-out-if1 : tie.Need-element-copy-out-if1
+element-copy-out-if1 c = search needs
+
+cast-if1 : tie.Need-cast-if1
+cast-if1 c = search needs
+
+returns : tie.Need-returns
+returns c =
+    let a = c .before .before .args in
+    let g : Graph = graphOf (a .g .now) in
+    let unknown : known g (a .e) ≡ false = simp (le-ltb _ _ (c .if1 .taken)) in
+    sym (entry-unknown g (a .m) (a .e) unknown)
+
+element-copy-out-if2 : tie.Need-element-copy-out-if2
+element-copy-out-if2 c = search needs
+
+cast-if2 : tie.Need-cast-if2
+cast-if2 c = search needs
+
+returns-2 : tie.Need-returns-2
+returns-2 c =
+    let a = c .before .before .before .before .args in
+    let g : Graph = graphOf (a .g .now) in
+    let unknown : known g (a .e) ≡ false = simp (lt-ltb _ _ (c .before .before .if1 .left), le-ltb _ _ (c .if2 .taken)) in
+    sym (entry-unknown g (a .m) (a .e) unknown)
+
+element-copy-out-if3 : tie.Need-element-copy-out-if3
+element-copy-out-if3 c = search needs
+
+cast-if3 : tie.Need-cast-if3
+cast-if3 c = search needs
+
+returns-3 : tie.Need-returns-3
+returns-3 c =
+    let a = c .before .before .before .before .before .before .args in
+    let g : Graph = graphOf (a .g .now) in
+    let unknown : known g (a .e) ≡ false = simp (lt-ltb _ _ (c .before .before .before .before .if1 .left), lt-ltb _ _ (c .before .before .if2 .left), le-ltb _ _ (c .if3 .taken)) in
+    sym (entry-unknown g (a .m) (a .e) unknown)
+
+row-at-requires : tie.Need-row-at-requires
+row-at-requires c κs = search needs
+
+take-row-requires : tie.Need-take-row-requires
+take-row-requires c κs = search needs
+
+returns-4 : tie.Need-returns-4
+returns-4 c =
+    let a = c .before .before .before .before .before .before .before .before .args in
+    let g : Graph = graphOf (a .g .now) in
+    let is : known g (a .e) ≡ true = simp (lt-ltb _ _ (c .before .before .before .before .before .before .if1 .left), lt-ltb _ _ (c .before .before .before .before .if2 .left), lt-ltb _ _ (c .before .before .if3 .left)) in
+    c .take-row .ensures ∙ ap (λ (w : Row). moveOf (first (rowLines w (a .m) (a .e))) (a .m) (after w (a .m) (a .e .step .0))) (c .before .row-at .ensures) ∙ sym (entry-known g (a .m) (a .e) is)
+
+pub enter-spec : {M : Type 1} → statement M
+enter-spec =
+    tie.close
+    (tie.spec
+    element-copy-out-if1
+    cast-if1
+    returns
+    element-copy-out-if2
+    cast-if2
+    returns-2
+    element-copy-out-if3
+    cast-if3
+    returns-3
+    row-at-requires
+    take-row-requires
+    returns-4)

@@ -1,0 +1,38 @@
+-- `inner::row_at`: a row is read word by word. Assumes nothing.
+use borrow.Author.Needs.{needs}
+use Rattle.rules.proofs.inner.row_at.Statement.{statement}
+use Rattle.rules.proofs.inner.row_at.Tie as tie
+
+word-requires : tie.Need-word-requires
+word-requires c κs = search needs
+
+word-requires-2 : tie.Need-word-requires-2
+word-requires-2 c κs = search needs
+
+word-requires-3 : tie.Need-word-requires-3
+word-requires-3 c κs = search needs
+
+word-requires-4 : tie.Need-word-requires-4
+word-requires-4 c κs = search needs
+
+word-requires-5 : tie.Need-word-requires-5
+word-requires-5 c κs = search needs
+
+word-requires-6 : tie.Need-word-requires-6
+word-requires-6 c κs = search needs
+
+returns : tie.Need-returns
+returns c =
+    simp (c .word6 .ensures, c .before .word5 .ensures, c .before .before .word4 .ensures, c .before .before .before .word3 .ensures, c .before .before .before .before .word2 .ensures, c .before .before .before .before .before .word .ensures)
+
+pub row-at-spec : {M : Type 1} → statement M
+row-at-spec =
+    tie.close
+    (tie.spec
+    word-requires
+    word-requires-2
+    word-requires-3
+    word-requires-4
+    word-requires-5
+    word-requires-6
+    returns)
