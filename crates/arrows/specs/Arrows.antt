@@ -5,7 +5,7 @@ use mathlib.Core.Bool.{Bool, true, false, _&&_, _||_, cond}
 use lib.ListN.{set, replicate}
 use lib.Dec.{eqb, ltb, leb}
 use Rattle.sets.specs.Sets.{has, single, union}
-use Rattle.rules.specs.Graph.{row}
+use Rattle.tables.specs.Tables.{row}
 
 pub record Arrow : Type 0 where
   pub kind : ℕ

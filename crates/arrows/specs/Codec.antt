@@ -8,7 +8,7 @@ use native.Mathlib.Omega.{arith}
 use lib.Dec.{leb}
 use borrow.Author.Tests.{lt-ltb, le-leb, leb-true}
 use Rattle.sets.specs.Truth.{and-left, and-right, and-intro}
-use Rattle.rules.specs.Graph.{row}
+use Rattle.tables.specs.Tables.{row}
 use Rattle.arrows.specs.Arrows.{Arrow, known, allKnown, ascending, arrowsFit, tableOf, held, place, arrowAt, listed, keptIf, arrowsOf}
 use Rattle.arrows.specs.Lists.{member, upFrom, allBelow, listed-same, listed-members, member-listed}
 use Rattle.arrows.specs.Places.{Ranged, known-ranged, place-arrowAt, arrowAt-place, place-lt, arrowAt-ranged, fitFrom, fit-places}

@@ -10,7 +10,7 @@ use lib.Seq.{sets, drop-cons}
 use lib.Dec.{leb}
 use Rattle.sets.specs.Sets.{has, single, union, lowest}
 use Rattle.sets.specs.Truth.{and-left, and-right}
-use Rattle.rules.specs.Graph.{row}
+use Rattle.tables.specs.Tables.{row}
 use Rattle.numbers.specs.Numbers.{Spliced}
 use Rattle.numbers.specs.Laws.{spliced-then}
 use Rattle.arrows.specs.Arrows.{Arrow, arrowsIn, known, arrowsFit, put, putAll, place, spelt}

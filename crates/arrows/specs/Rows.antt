@@ -14,7 +14,7 @@ use borrow.Author.Tests.{eq-eqb, ne-eqb}
 use Rattle.sets.specs.Sets.{has, single, minus, lowest}
 use Rattle.sets.specs.Laws.{Least, lowest-least, lowest-has, has-minus, has-single, has-zero, has-above, ext, has-half, has-low}
 use Rattle.sets.specs.Truth.{and-false, and-true}
-use Rattle.rules.specs.Graph.{row}
+use Rattle.tables.specs.Tables.{row}
 use Rattle.arrows.specs.Arrows.{Arrow, putAll, held, place, arrowAt, listed, keptIf, arrowsOf, pick, fourTables}
 use Rattle.arrows.specs.Lists.{member, listed-same, listed-add, listed-none, listed-first, member-listed}
 use Rattle.arrows.specs.Places.{place-arrowAt}

@@ -12,7 +12,7 @@ use borrow.Author.Tests.{leb-true, ltb-true, le-leb, lt-ltb, eqb-true}
 use Rattle.sets.specs.Sets.{has, single, union}
 use Rattle.sets.specs.Truth.{and-left, and-right, and-intro}
 use Rattle.sets.specs.Laws.{ext, has-union}
-use Rattle.rules.specs.Graph.{row}
+use Rattle.tables.specs.Tables.{row}
 use Rattle.numbers.specs.Numbers.{number, Bytes}
 use Rattle.numbers.specs.Laws.{number-two}
 use Rattle.arrows.specs.Arrows.{Arrow, known, place, put}

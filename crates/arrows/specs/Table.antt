@@ -13,7 +13,7 @@ use borrow.Author.Tests.{lt-ltb, le-ltb, eq-eqb, ne-eqb}
 use Rattle.sets.specs.Sets.{has, single, union}
 use Rattle.sets.specs.Truth.{and-left, and-right, or-false}
 use Rattle.sets.specs.Laws.{has-union, has-single, has-zero, has-above, ext, union-lt, single-lt}
-use Rattle.rules.specs.Graph.{row}
+use Rattle.tables.specs.Tables.{row}
 use Rattle.arrows.specs.Arrows.{Arrow, rowAt, columnAt, put, putAll, held, place, arrowAt, known, allKnown}
 use Rattle.arrows.specs.Lists.{member}
 use Rattle.arrows.specs.Places.{Ranged, known-ranged, arrowAt-place}

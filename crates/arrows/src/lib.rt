@@ -3,7 +3,7 @@
 ghost use mathlib.Core.Path.{_≡_};
 ghost use Prim.Native.Nat.{ℕ, _+_, _*_, _%_, _<_, _≤_};
 ghost use lib.ListN.{length};
-ghost use Rattle.rules.specs.Graph.{row};
+ghost use Rattle.tables.specs.Tables.{row};
 ghost use Rattle.numbers.specs.Numbers.{Spliced};
 ghost use Rattle.arrows.specs.Arrows.{arrowsIn, arrowsFit, putAll, spelt};
 ghost use Rattle.arrows.specs.Rows.{members, rowArrows, kindArrows, countOf, turned};

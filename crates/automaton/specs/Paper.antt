@@ -7,10 +7,10 @@ use mathlib.Core.Option.{Option, none, some}
 use lib.Dec.{ltb}
 use Rattle.sets.specs.Sets.{has, single, union, meet, minus, empty, lowest, gather}
 use Rattle.rules.specs.Graph.{Graph}
-use Rattle.rules.specs.declared.Marking.{Marking}
-use Rattle.rules.specs.declared.Entry.{Entry}
-use Rattle.rules.specs.declared.Move.{Move}
-use Rattle.rules.specs.Move.{theMove}
+use Rattle.moves.specs.declared.Marking.{Marking}
+use Rattle.moves.specs.declared.Entry.{Entry}
+use Rattle.moves.specs.declared.Move.{Move}
+use Rattle.rules.specs.Answers.{theMove}
 use Rattle.rules.specs.Sound.{Inside}
 use Rattle.tracker.specs.declared.Track.{Track}
 

@@ -11,13 +11,14 @@ use Rattle.sets.specs.Sets.{empty, full, lowest}
 use Rattle.sets.specs.Truth.{and-left, and-right}
 use Rattle.sets.specs.Laws.{meet-lt, minus-lt, lowest-wider, lowest-below}
 use Rattle.rules.specs.Graph.{Graph}
-use Rattle.rules.specs.declared.Marking.{Marking}
-use Rattle.rules.specs.declared.Entry.{Entry}
-use Rattle.rules.specs.declared.Verdict.{Verdict}
-use Rattle.rules.specs.declared.Refusal.{Refusal}
-use Rattle.rules.specs.First.{first, number, numberOf, stepOf}
-use Rattle.rules.specs.Move.{isFinished, known, entryLines}
-use Rattle.rules.specs.Laws.{ascends, clear-head, clear-front, clear-back}
+use Rattle.moves.specs.declared.Marking.{Marking}
+use Rattle.moves.specs.declared.Entry.{Entry}
+use Rattle.moves.specs.declared.Verdict.{Verdict}
+use Rattle.moves.specs.declared.Refusal.{Refusal}
+use Rattle.moves.specs.First.{first, number, numberOf, stepOf}
+use Rattle.moves.specs.Move.{isFinished}
+use Rattle.rules.specs.Answers.{known, entryLines}
+use Rattle.moves.specs.Given.{ascends, clear-head, clear-front, clear-back}
 use Rattle.rules.specs.Sound.{Inside, Sound, clear-sound, fits-inside, after-inside}
 use Rattle.rules.specs.Entries.{moved-clear, moved-after}
 use Rattle.tracker.specs.declared.Track.{Track}

@@ -4,8 +4,8 @@ use mathlib.Core.List.{List, [], _++_}
 use mathlib.Core.Bool.{Bool}
 use lib.ListN.{length, getD, drop}
 use Rattle.sets.specs.Sets.{within, every}
-use Rattle.rules.specs.declared.Marking.{Marking}
-use Rattle.rules.specs.Graph.{row}
+use Rattle.moves.specs.declared.Marking.{Marking}
+use Rattle.tables.specs.Tables.{row}
 use Rattle.numbers.specs.Numbers.{number, bytes}
 use Rattle.bodies.specs.declared.Counts.{Counts}
 use Rattle.bodies.specs.Tables.{tabled}

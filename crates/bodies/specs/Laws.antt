@@ -7,8 +7,8 @@ use native.Mathlib.Omega.{arith}
 use lib.ListN.{length, length-append, drop-of-length-le}
 use Rattle.sets.specs.Sets.{within, gather}
 use Rattle.sets.specs.Laws.{within-gather}
-use Rattle.rules.specs.declared.Marking.{Marking}
-use Rattle.rules.specs.Graph.{row}
+use Rattle.moves.specs.declared.Marking.{Marking}
+use Rattle.tables.specs.Tables.{row}
 use Rattle.numbers.specs.Numbers.{number, bytes, Spliced}
 use Rattle.numbers.specs.Laws.{length-bytes, spliced-then}
 use Rattle.bodies.specs.Bodies.{countsBody, markingBody, rolesBody, setAt, roleSetsFit}

@@ -8,7 +8,7 @@ use native.Mathlib.Omega.{arith}
 use native.Mathlib.Decide.{decLt}
 use lib.ListN.{length, set, length-append, List·getD-append, List·getD-eq-default, drop-of-length-le}
 use lib.Seq.{sets, sets-eq, getD-at, ext-getD}
-use Rattle.rules.specs.Graph.{row}
+use Rattle.tables.specs.Tables.{row}
 use Rattle.numbers.specs.Numbers.{Spliced}
 use Rattle.numbers.specs.Laws.{sets-append}
 

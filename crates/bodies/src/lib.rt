@@ -4,7 +4,7 @@ ghost use Prim.Native.Nat.{ℕ, _+_, _*_, _%_, _<_, _≤_};
 ghost use lib.ListN.{length};
 ghost use Rattle.numbers.specs.Numbers.{Spliced};
 ghost use Rattle.bodies.specs.Bodies.{countsBody, countsIn, markingBody, markingIn, rolesBody, setAt, setsIn, roleSetsFit, quarter};
-use rules::Marking;
+use moves::Marking;
 
 pub struct Counts {
     pub steps: u64,

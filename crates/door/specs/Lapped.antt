@@ -3,7 +3,7 @@ use Prim.Native.Nat.{ℕ, _+_, _*_}
 use mathlib.Core.Path.{_≡_}
 use mathlib.Core.List.{List}
 use Rattle.rules.specs.declared.Graph.{Graph}
-use Rattle.rules.specs.declared.Marking.{Marking}
+use Rattle.moves.specs.declared.Marking.{Marking}
 use Rattle.laps.specs.declared.Lapped.{Lapped}
 use Rattle.laps.specs.Laps.{LapAnswer, numberOfPass}
 use Rattle.words.specs.Words.{refusalWord}

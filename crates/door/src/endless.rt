@@ -18,7 +18,7 @@ fn pass(p: Pass) -> u8
     }
 }
 
-fn stopped(k: u16, p: Pass, r: rules::Refusal) -> u64
+fn stopped(k: u16, p: Pass, r: moves::Refusal) -> u64
     ensures { λ w. ⌜ w ≡ lapWord (Lapped.Stopped k p r) ⌝ }
 {
     let number = pass(p);

@@ -5,8 +5,8 @@ ghost use Rattle.journal.specs.Run.{theRun};
 ghost use Rattle.journal.specs.Walk.{strideAt};
 ghost use Rattle.kept.specs.Keep.{theKept};
 ghost use Rattle.words.specs.Words.{markingIn, entryOf, moveWord, markingOut, ranWord, ranOut, walkedWord};
-use rules::Entry;
-use rules::Step;
+use moves::Entry;
+use moves::Step;
 
 // Refusals 2, 4, 6, 7, 8, 11 to 15 with the waiting step in the second byte and the entry's index above. Where all pass the number of
 // entries stands in the index's place, and the marking becomes the end marking.

@@ -2,15 +2,15 @@
 // what goes with the number. Lent memory is written only where the number is 0. include/ulzhartep.h declares the same calls.
 ghost use mathlib.Core.Path.{_≡_};
 ghost use Rattle.rules.specs.Graph.{lentGraph, graphVerdict};
-ghost use Rattle.rules.specs.Move.{theMove, theEnding};
+ghost use Rattle.rules.specs.Answers.{theMove, theEnding};
 ghost use Rattle.words.specs.Words.{verdictWord, moveWord, endingWord, markingIn, markingOut, entryOf};
 use rules::Ending;
-use rules::Entry;
-use rules::Marking;
-use rules::Move;
-use rules::Refusal;
-use rules::Step;
-use rules::Verdict;
+use moves::Entry;
+use moves::Marking;
+use moves::Move;
+use moves::Refusal;
+use moves::Step;
+use moves::Verdict;
 
 pub mod endless;
 pub mod folded;

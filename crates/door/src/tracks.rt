@@ -3,9 +3,9 @@ ghost use mathlib.Core.Path.{_≡_};
 ghost use Rattle.rules.specs.Graph.{lentGraph};
 ghost use Rattle.tracker.specs.Tracker.{theStart, theIdle, theStep};
 ghost use Rattle.words.specs.Words.{markingIn, entryOf, trackIn, trackedWord, trackedOut};
-use rules::Entry;
-use rules::Rank;
-use rules::Step;
+use moves::Entry;
+use moves::Rank;
+use moves::Step;
 use tracker::Track;
 
 // Refusals 2, 4, 6, 8. The second byte is the flag, and the rank stands above it.

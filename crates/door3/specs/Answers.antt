@@ -5,11 +5,11 @@ use mathlib.Core.List.{List}
 use mathlib.Core.Path.{_≡_}
 use mathlib.Core.Bool.{Bool, cond}
 use lib.Dec.{ltb}
-use Rattle.rules.specs.declared.Rank.{Rank}
-use Rattle.rules.specs.declared.Marking.{Marking}
-use Rattle.rules.specs.First.{numberOf, stepOf}
+use Rattle.moves.specs.declared.Rank.{Rank}
+use Rattle.moves.specs.declared.Marking.{Marking}
+use Rattle.moves.specs.First.{numberOf, stepOf}
 use Rattle.rules.specs.Graph.{Graph}
-use Rattle.rules.specs.Move.{noMarking}
+use Rattle.moves.specs.Move.{noMarking}
 use Rattle.laps.specs.declared.Lapped as answers
 use Rattle.laps.specs.Laps.{LapAnswer, numberOfLap, indexOfLap, passOfLap}
 use Rattle.tracker.specs.declared.Track as states

@@ -1,7 +1,7 @@
 // The answers of the floors below, as structs of words.
 ghost use mathlib.Core.Path.{_≡_};
-ghost use Rattle.rules.specs.First.{numberOf, stepOf};
-ghost use Rattle.rules.specs.Move.{numberOfMove, stepOfMove, markingOfMove};
+ghost use Rattle.moves.specs.First.{numberOf, stepOf};
+ghost use Rattle.moves.specs.Move.{numberOfMove, stepOfMove, markingOfMove};
 ghost use Rattle.journal.specs.Run.{numberOfRun, stepOfRun, indexOfRun, markingOfRun};
 ghost use Rattle.laps.specs.Laps.{numberOfPass};
 ghost use Rattle.tracker.specs.Tracker.{numberOfTracked, stepOfTracked};
@@ -12,11 +12,11 @@ use crate::Ran;
 use crate::Track;
 use crate::Tracked;
 use laps::Pass;
-use rules::Marking;
-use rules::Move;
-use rules::NONE;
-use rules::Rank;
-use rules::Refusal;
+use moves::Marking;
+use moves::Move;
+use moves::NONE;
+use moves::Rank;
+use moves::Refusal;
 
 const NOWHERE: Track = Track {
     marking: NONE,
@@ -34,7 +34,7 @@ fn said(r: Refusal) -> Words
     ensures { λ w. ⌜ w .number ≡ numberOf r ⌝ }
     ensures { λ w. ⌜ w .waiting ≡ stepOf r ⌝ }
 {
-    let t = rules::tell(r);
+    let t = moves::tell(r);
     Words {
         number: t.number as u64,
         waiting: t.step as u64,

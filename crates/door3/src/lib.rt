@@ -1,13 +1,14 @@
 // The border to C: a graph is one lent block, markings and entries go by value, and an answer is a struct with a name for each value.
 ghost use mathlib.Core.Path.{_≡_};
 ghost use Rattle.rules.specs.Graph.{graphOf};
-ghost use Rattle.rules.specs.Move.{theMove, numberOfMove, stepOfMove, markingOfMove};
+ghost use Rattle.rules.specs.Answers.{theMove};
+ghost use Rattle.moves.specs.Move.{numberOfMove, stepOfMove, markingOfMove};
 ghost use Rattle.journal.specs.Run.{theRun, numberOfRun, stepOfRun, indexOfRun, markingOfRun};
 ghost use Rattle.tracker.specs.Tracker.{theStep, numberOfTracked, stepOfTracked};
 ghost use Rattle.door3.specs.Answers.{trackIn, trackOfTracked, LapTold};
-use rules::Entry;
+use moves::Entry;
 use rules::Job;
-use rules::Marking;
+use moves::Marking;
 
 pub mod inner;
 

@@ -12,7 +12,7 @@ use borrow.Author.Tests.{eqb-true, eq-eqb, lt-ltb}
 use Rattle.sets.specs.Sets.{union, meet, minus, full}
 use Rattle.sets.specs.Laws.{union-lt, minus-lt, full-lt, subset-full, minus-zero}
 use Rattle.sets.specs.Digits.{at-digit, as-sets, by-digits}
-use Rattle.rules.specs.declared.Marking.{Marking}
+use Rattle.moves.specs.declared.Marking.{Marking}
 use Rattle.rules.specs.Sound.{Inside}
 use Rattle.records.specs.declared.Record.{Record}
 use Rattle.records.specs.Records.{applies, gives, acts}

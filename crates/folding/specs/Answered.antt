@@ -4,14 +4,15 @@ use mathlib.Core.Path.{_≡_, refl, ap, _∙_}
 use mathlib.Core.List.{List, [], _∷_, _++_}
 use mathlib.Core.Bool.{Bool, true, false, not, cond}
 use Rattle.rules.specs.Graph.{Graph}
-use Rattle.rules.specs.declared.Marking.{Marking}
-use Rattle.rules.specs.declared.Refusal.{Refusal}
-use Rattle.rules.specs.declared.Refusal.the-variants.{Length, Outside, IllFormed, NotApplied}
-use Rattle.rules.specs.declared.Verdict.{Verdict}
-use Rattle.rules.specs.First.{first}
+use Rattle.moves.specs.declared.Marking.{Marking}
+use Rattle.moves.specs.declared.Refusal.{Refusal}
+use Rattle.moves.specs.declared.Refusal.the-variants.{Length, Outside, IllFormed, NotApplied}
+use Rattle.moves.specs.declared.Verdict.{Verdict}
+use Rattle.moves.specs.First.{first}
 use Rattle.rules.specs.Graph.{graphLines, graphVerdict}
-use Rattle.rules.specs.Move.{markingFits, markingLines, noMarking}
-use Rattle.rules.specs.Laws.{first-clear, first-refused}
+use Rattle.moves.specs.Move.{markingFits, noMarking}
+use Rattle.rules.specs.Answers.{markingLines}
+use Rattle.moves.specs.Given.{first-clear, first-refused}
 use Rattle.journal.specs.declared.Ran.{Ran}
 use Rattle.journal.specs.Journal.{entries, lengthFits}
 use Rattle.journal.specs.Run.{runOn, runOf, lengthLines}

@@ -3,11 +3,11 @@ use Prim.Native.Nat.{ℕ}
 use mathlib.Core.List.{List, [], _∷_, _++_}
 use mathlib.Core.Bool.{not, cond}
 use Rattle.rules.specs.Graph.{Graph}
-use Rattle.rules.specs.declared.Marking.{Marking}
-use Rattle.rules.specs.declared.Refusal.the-variants.{IllFormed, NotApplied}
-use Rattle.rules.specs.First.{Line, first}
+use Rattle.moves.specs.declared.Marking.{Marking}
+use Rattle.moves.specs.declared.Refusal.the-variants.{IllFormed, NotApplied}
+use Rattle.moves.specs.First.{Line, first}
 use Rattle.rules.specs.Graph.{graphLines}
-use Rattle.rules.specs.Move.{markingLines}
+use Rattle.rules.specs.Answers.{markingLines}
 use Rattle.journal.specs.declared.Ran.{Ran}
 use Rattle.journal.specs.Journal.{entries}
 use Rattle.journal.specs.Run.{runOn, runOf, lengthLines}

@@ -1,9 +1,9 @@
 -- What a list of entries does, allowed or not. No promise speaks of it; laps are decided through it.
 use mathlib.Core.List.{List, [], _∷_}
 use Rattle.rules.specs.Graph.{Graph}
-use Rattle.rules.specs.declared.Marking.{Marking}
-use Rattle.rules.specs.declared.Entry.{Entry}
-use Rattle.rules.specs.Move.{after}
+use Rattle.moves.specs.declared.Marking.{Marking}
+use Rattle.moves.specs.declared.Entry.{Entry}
+use Rattle.moves.specs.Move.{after}
 use Rattle.records.specs.declared.Record.{Record}
 use Rattle.records.specs.Records.{identity, compose}
 use Rattle.folding.specs.Fold.{rowAt, stepRecord}

@@ -5,11 +5,12 @@ use mathlib.Core.Bool.{Bool, false, _&&_, cond}
 use mathlib.Core.Option.{Option, none, some, bind}
 use Rattle.sets.specs.Sets.{single, minus}
 use Rattle.rules.specs.Graph.{Graph}
-use Rattle.rules.specs.declared.inner.Row.{Row}
-use Rattle.rules.specs.declared.Marking.{Marking}
-use Rattle.rules.specs.declared.Entry.{Entry}
-use Rattle.rules.specs.declared.Move.{Move}
-use Rattle.rules.specs.Move.{rowOf, known, personHolds, stepHas, entryMove}
+use Rattle.moves.specs.declared.inner.Row.{Row}
+use Rattle.moves.specs.declared.Marking.{Marking}
+use Rattle.moves.specs.declared.Entry.{Entry}
+use Rattle.moves.specs.declared.Move.{Move}
+use Rattle.rules.specs.Answers.{rowOf, known, entryMove}
+use Rattle.moves.specs.Move.{personHolds, stepHas}
 use Rattle.records.specs.declared.Record.{Record}
 use Rattle.records.specs.Records.{identity, impossible, tidy, join}
 

@@ -15,16 +15,17 @@ use Rattle.sets.specs.Truth.{and-left, and-right, same-truth}
 use Rattle.sets.specs.Laws.{has-single, subset-members, members-subset, single-lt, minus-lt}
 use Rattle.sets.specs.Digits.{at-digit, as-sets}
 use Rattle.rules.specs.Graph.{Graph}
-use Rattle.rules.specs.declared.inner.Row.{Row}
-use Rattle.rules.specs.declared.Marking.{Marking}
-use Rattle.rules.specs.declared.Entry.{Entry}
-use Rattle.rules.specs.declared.Step.{Step}
-use Rattle.rules.specs.declared.Refusal.the-variants.{Unknown, NotHeld, NotOnStep, Excluded, Waits}
-use Rattle.rules.specs.declared.Verdict.{Verdict}
-use Rattle.rules.specs.declared.Move.{Move}
-use Rattle.rules.specs.First.{first}
+use Rattle.moves.specs.declared.inner.Row.{Row}
+use Rattle.moves.specs.declared.Marking.{Marking}
+use Rattle.moves.specs.declared.Entry.{Entry}
+use Rattle.moves.specs.declared.Step.{Step}
+use Rattle.moves.specs.declared.Refusal.the-variants.{Unknown, NotHeld, NotOnStep, Excluded, Waits}
+use Rattle.moves.specs.declared.Verdict.{Verdict}
+use Rattle.moves.specs.declared.Move.{Move}
+use Rattle.moves.specs.First.{first}
 use Rattle.rules.specs.Graph.{graphVerdict}
-use Rattle.rules.specs.Move.{known, personHolds, stepHas, isIncluded, waitsFor, after, entryMove, entryLines, moveOf}
+use Rattle.rules.specs.Answers.{known, entryMove, entryLines}
+use Rattle.moves.specs.Move.{personHolds, stepHas, isIncluded, waitsFor, after, moveOf}
 use Rattle.rules.specs.Sound.{Sound}
 use Rattle.journal.specs.Journal.{entries, entryAt}
 use Rattle.journal.specs.Laws.{entries-from}

@@ -6,11 +6,13 @@ use borrow.Author.Tests.{lt-ltb, not-false}
 use Rattle.sets.specs.Truth.{and-left, and-right, and-intro, same-truth}
 use Rattle.sets.specs.Laws.{member-below}
 use Rattle.rules.specs.Graph.{Graph}
-use Rattle.rules.specs.declared.Entry.{Entry}
-use Rattle.rules.specs.declared.Verdict.{Verdict}
-use Rattle.rules.specs.Graph.{keeps, arrowsFit, setsFit, graphVerdict, rolesHeld}
-use Rattle.rules.specs.Move.{known, personHolds, stepHas}
-use Rattle.rules.specs.Laws.{clear-head, clear-tail}
+use Rattle.moves.specs.declared.Entry.{Entry}
+use Rattle.moves.specs.declared.Verdict.{Verdict}
+use Rattle.tables.specs.Tables.{keeps, arrowsFit}
+use Rattle.rules.specs.Graph.{setsFit, graphVerdict, rolesHeld}
+use Rattle.rules.specs.Answers.{known}
+use Rattle.moves.specs.Move.{personHolds, stepHas}
+use Rattle.moves.specs.Given.{clear-head, clear-tail}
 use Rattle.rules.specs.Sound.{clear-sound, named-below}
 use Rattle.folding.specs.Fold.{rowAt, possible}
 

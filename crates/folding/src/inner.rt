@@ -5,7 +5,7 @@ ghost use lib.ListN.{length};
 ghost use mathlib.Core.Bool.{_&&_};
 ghost use Rattle.sets.specs.Sets.{has};
 ghost use Rattle.rules.specs.Graph.{graphOf, graphVerdict};
-ghost use Rattle.rules.specs.declared.Verdict.{Verdict};
+ghost use Rattle.moves.specs.declared.Verdict.{Verdict};
 ghost use Rattle.journal.specs.Journal.{entries};
 ghost use Rattle.folding.specs.Fold.{stepRecord, entryRecord, foldOf};
 use journal::inner::entry_at;
@@ -13,9 +13,9 @@ use records::Record;
 use records::inner::NEVER;
 use records::inner::composed;
 use records::inner::tidied;
-use rules::Entry;
+use moves::Entry;
 use rules::Job;
-use rules::inner::Row;
+use moves::inner::Row;
 use rules::inner::row_at;
 
 // May the entry's role take the step, if its person holds it?

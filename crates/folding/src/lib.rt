@@ -12,9 +12,9 @@ use records::inner::given;
 use records::inner::suits;
 use records::inner::well_formed;
 use rules::Job;
-use rules::Marking;
-use rules::Refusal;
-use rules::Verdict;
+use moves::Marking;
+use moves::Refusal;
+use moves::Verdict;
 
 pub mod inner;
 
@@ -45,7 +45,7 @@ pub fn restore<'a, 'b>(g: &'a Job, r: Record, j: &'b [u8], m: Marking) -> Ran
     if !length_fits(j) {
         return Ran::Stopped(0, Refusal::Length, NONE);
     }
-    if !rules::inner::fits(steps, m) {
+    if !moves::inner::fits(steps, m) {
         return Ran::Stopped(0, Refusal::Outside, NONE);
     }
     if !well_formed(steps, r) {

@@ -3,7 +3,7 @@
 // Steps: 0 sign, 1 give medicine, 2 prescribe medicine, 3 don't trust. Section 4 gives sign rank 1, so it stands first.
 // Roles: 0 doctor, 1 nurse. Person 0 is a doctor, person 1 a nurse.
 use rules::Graph;
-use rules::Marking;
+use moves::Marking;
 
 pub const SIGN: u8 = 0;
 

@@ -1,6 +1,6 @@
 // States as plain lines.
 use rules::Graph;
-use rules::Marking;
+use moves::Marking;
 use tracker::Track;
 
 pub fn say(text: &[u8]) {
@@ -36,7 +36,7 @@ fn say_step(conditions: u64, m: Marking, s: u8) {
     if sets::has(m.due, s) {
         say(b", due");
     }
-    if rules::inner::waits(conditions, m) != 0 {
+    if moves::inner::waits(conditions, m) != 0 {
         say(b", blocked");
     }
     say(b"\n");

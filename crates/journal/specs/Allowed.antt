@@ -14,15 +14,19 @@ use Rattle.sets.specs.Sets.{has, meet, empty, within}
 use Rattle.sets.specs.Truth.{and-left, and-right, and-intro}
 use Rattle.sets.specs.Laws.{has-meet, has-zero, has-above, every-at}
 use Rattle.rules.specs.Graph.{Graph}
-use Rattle.rules.specs.declared.Marking.{Marking}
-use Rattle.rules.specs.declared.Entry.{Entry}
-use Rattle.rules.specs.declared.Refusal.{Refusal}
-use Rattle.rules.specs.declared.Verdict.{Verdict}
-use Rattle.rules.specs.declared.Move.{Move}
-use Rattle.rules.specs.First.{Line, first}
-use Rattle.rules.specs.Graph.{row, keeps, rolesFit, setsFit, rolesOf, rolesHeld, graphVerdict}
-use Rattle.rules.specs.Move.{rowOf, known, isIncluded, waitsFor, after, entryLines, entryMove, moveOf}
-use Rattle.rules.specs.Laws.{Counted, clear-counts, clear-head, clear-tail}
+use Rattle.moves.specs.declared.Marking.{Marking}
+use Rattle.moves.specs.declared.Entry.{Entry}
+use Rattle.moves.specs.declared.Refusal.{Refusal}
+use Rattle.moves.specs.declared.Verdict.{Verdict}
+use Rattle.moves.specs.declared.Move.{Move}
+use Rattle.moves.specs.First.{Line, first}
+use Rattle.tables.specs.Tables.{row, keeps, rolesFit}
+use Rattle.rules.specs.Graph.{setsFit, rolesOf, rolesHeld, graphVerdict}
+use Rattle.rules.specs.Answers.{rowOf, known, entryLines, entryMove}
+use Rattle.moves.specs.Move.{isIncluded, waitsFor, after, moveOf}
+use Rattle.tables.specs.Laws.{Counted}
+use Rattle.rules.specs.Laws.{clear-counts}
+use Rattle.moves.specs.Given.{clear-head, clear-tail}
 use Rattle.rules.specs.Sound.{clear-sound}
 
 -- no line of the table holds

@@ -4,7 +4,7 @@ use mathlib.Core.List.{List, [], _∷_}
 use mathlib.Core.Bool.{Bool, _&&_}
 use lib.ListN.{length, getD}
 use lib.Dec.{eqb, leb}
-use Rattle.rules.specs.declared.Entry.{Entry}
+use Rattle.moves.specs.declared.Entry.{Entry}
 
 -- an entry is a person, a step and a role
 abbrev pub entryOf : ℕ → ℕ → ℕ → Entry

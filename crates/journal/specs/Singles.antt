@@ -8,7 +8,7 @@ use lib.Dec.{eqb}
 use borrow.Author.Tests.{eqb-true, eq-eqb}
 use Rattle.sets.specs.Sets.{has, single, meet, empty, every}
 use Rattle.sets.specs.Laws.{has-meet, has-single, empty-members, members-empty, every-at}
-use Rattle.rules.specs.Graph.{row}
+use Rattle.tables.specs.Tables.{row}
 
 -- row i is the set with i alone
 abbrev pub Singles : List ℕ → Type 0

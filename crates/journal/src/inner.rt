@@ -6,9 +6,9 @@ ghost use Rattle.journal.specs.Journal.{entryAt, lengthFits};
 ghost use Rattle.journal.specs.Walk.{stays, strideAt};
 use crate::Stride;
 use crate::Walked;
-use rules::Entry;
-use rules::Refusal;
-use rules::Step;
+use moves::Entry;
+use moves::Refusal;
+use moves::Step;
 
 // Entry k of a journal.
 pub fn entry_at(j: &[u8], k: usize) -> Entry

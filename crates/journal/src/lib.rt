@@ -2,7 +2,7 @@
 ghost use mathlib.Core.Path.{_≡_};
 ghost use Prim.Native.Nat.{ℕ, _%_, _≤_};
 ghost use lib.ListN.{length};
-ghost use Rattle.rules.specs.declared.Verdict.{Verdict};
+ghost use Rattle.moves.specs.declared.Verdict.{Verdict};
 ghost use Rattle.rules.specs.Graph.{graphOf, graphVerdict};
 ghost use Rattle.journal.specs.Journal.{entries};
 ghost use Rattle.journal.specs.Run.{runOn, theRun};
@@ -13,12 +13,12 @@ use crate::quick::SINGLES;
 use crate::quick::allowed;
 use crate::quick::refused;
 use crate::quick::taken;
-use rules::Entry;
+use moves::Entry;
 use rules::Job;
-use rules::Marking;
-use rules::NONE;
-use rules::Refusal;
-use rules::Verdict;
+use moves::Marking;
+use moves::NONE;
+use moves::Refusal;
+use moves::Verdict;
 
 pub mod inner;
 pub mod quick;
@@ -82,7 +82,7 @@ pub fn run<'a, 'b>(g: &'a Job, m: Marking, j: &'b [u8]) -> Ran
     if !length_fits(j) {
         return Ran::Stopped(0, Refusal::Length, NONE);
     }
-    if !rules::inner::fits(g[0], m) {
+    if !moves::inner::fits(g[0], m) {
         return Ran::Stopped(0, Refusal::Outside, NONE);
     }
     run_entries(g, m, j)

@@ -2,22 +2,23 @@
 // meets is asked only then.
 ghost use mathlib.Core.Path.{_≡_};
 ghost use Prim.Native.Nat.{ℕ, _<_, _≤_};
-ghost use Rattle.rules.specs.declared.Verdict.{Verdict};
+ghost use Rattle.moves.specs.declared.Verdict.{Verdict};
 ghost use Rattle.rules.specs.Graph.{graphOf, graphVerdict};
-ghost use Rattle.rules.specs.Move.{rowOf, after, entryMove};
+ghost use Rattle.rules.specs.Answers.{rowOf, entryMove};
+ghost use Rattle.moves.specs.Move.{after};
 ghost use Rattle.journal.specs.declared.Ran.{Ran};
 ghost use Rattle.journal.specs.Run.{goOn};
 ghost use Rattle.journal.specs.Allowed.{isAllowed};
 ghost use Rattle.journal.specs.Singles.{Singles};
 use crate::Ran;
-use rules::Entry;
+use moves::Entry;
 use rules::Job;
-use rules::Marking;
-use rules::Move;
+use moves::Marking;
+use moves::Move;
 use rules::inner::enter;
-use rules::inner::moved;
+use moves::inner::moved;
 use rules::inner::row_at;
-use rules::inner::waits;
+use moves::inner::waits;
 
 // The sets with one step each. A test by a look into this table is quicker than one by a shift, since the compiler shares a shift
 // with the move after the test and then does both in more instructions.

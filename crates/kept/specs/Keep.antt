@@ -1,9 +1,9 @@
 -- The kept marking: one marking, which an allowed entry alters where it lies.
 use Rattle.rules.specs.Graph.{Graph}
-use Rattle.rules.specs.declared.Marking.{Marking}
-use Rattle.rules.specs.declared.Entry.{Entry}
-use Rattle.rules.specs.declared.Move.{Move}
-use Rattle.rules.specs.Move.{theMove}
+use Rattle.moves.specs.declared.Marking.{Marking}
+use Rattle.moves.specs.declared.Entry.{Entry}
+use Rattle.moves.specs.declared.Move.{Move}
+use Rattle.rules.specs.Answers.{theMove}
 use Rattle.kept.specs.declared.Kept.{Kept}
 
 -- an allowed entry alters it; a refused entry leaves its three sets untouched

@@ -2,10 +2,10 @@
 ghost use mathlib.Core.Path.{_≡_};
 ghost use Rattle.rules.specs.Graph.{graphOf};
 ghost use Rattle.kept.specs.Keep.{theKept};
-use rules::Entry;
+use moves::Entry;
 use rules::Job;
-use rules::Marking;
-use rules::Move;
+use moves::Marking;
+use moves::Move;
 
 // The answer of the move, and the marking that lies there then.
 pub struct Kept {

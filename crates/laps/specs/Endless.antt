@@ -5,12 +5,13 @@ use mathlib.Core.Logic.{_⊎_}
 use mathlib.Core.Bool.{true, false}
 use Rattle.sets.specs.Sets.{has}
 use Rattle.rules.specs.Graph.{Graph}
-use Rattle.rules.specs.declared.Marking.{Marking}
-use Rattle.rules.specs.declared.Entry.{Entry}
-use Rattle.rules.specs.declared.Refusal.{Refusal}
-use Rattle.rules.specs.declared.Verdict.{Verdict}
-use Rattle.rules.specs.First.{first}
-use Rattle.rules.specs.Move.{rowOf, after, entryLines}
+use Rattle.moves.specs.declared.Marking.{Marking}
+use Rattle.moves.specs.declared.Entry.{Entry}
+use Rattle.moves.specs.declared.Refusal.{Refusal}
+use Rattle.moves.specs.declared.Verdict.{Verdict}
+use Rattle.moves.specs.First.{first}
+use Rattle.rules.specs.Answers.{rowOf, entryLines}
+use Rattle.moves.specs.Move.{after}
 
 module _ (g : Graph) (m : Marking) (e : ℕ → Entry) where
   -- the step done at position i

@@ -10,15 +10,16 @@ use native.Mathlib.Omega.{arith}
 use native.Mathlib.Decide.{decLt}
 use borrow.Author.Tests.{le-leb}
 use Rattle.rules.specs.Graph.{Graph}
-use Rattle.rules.specs.declared.Marking.{Marking}
-use Rattle.rules.specs.declared.Entry.{Entry}
-use Rattle.rules.specs.declared.Step.{Step}
-use Rattle.rules.specs.declared.Refusal.{Refusal}
-use Rattle.rules.specs.declared.Verdict.{Verdict}
-use Rattle.rules.specs.declared.Move.{Move}
-use Rattle.rules.specs.First.{first, numberOf}
-use Rattle.rules.specs.Move.{entryLines, moveOf, entryMove, noMarking}
-use Rattle.rules.specs.Laws.{ascends, clear-refused, first-above}
+use Rattle.moves.specs.declared.Marking.{Marking}
+use Rattle.moves.specs.declared.Entry.{Entry}
+use Rattle.moves.specs.declared.Step.{Step}
+use Rattle.moves.specs.declared.Refusal.{Refusal}
+use Rattle.moves.specs.declared.Verdict.{Verdict}
+use Rattle.moves.specs.declared.Move.{Move}
+use Rattle.moves.specs.First.{first, numberOf}
+use Rattle.rules.specs.Answers.{entryLines, entryMove}
+use Rattle.moves.specs.Move.{moveOf, noMarking}
+use Rattle.moves.specs.Given.{ascends, clear-refused, first-above}
 use Rattle.journal.specs.Journal.{entries}
 use Rattle.laps.specs.declared.Lapped.{Lapped}
 use Rattle.laps.specs.declared.Pass.{Pass}

@@ -14,12 +14,13 @@ use borrow.Author.Tests.{eqb-true, eq-eqb}
 use Rattle.sets.specs.Sets.{has}
 use Rattle.sets.specs.Laws.{has-union, has-meet, has-minus, has-single}
 use Rattle.rules.specs.Graph.{Graph}
-use Rattle.rules.specs.declared.inner.Row.{Row}
-use Rattle.rules.specs.declared.Marking.{Marking}
-use Rattle.rules.specs.declared.Entry.{Entry}
-use Rattle.rules.specs.declared.Refusal.{Refusal}
-use Rattle.rules.specs.declared.Verdict.{Verdict}
-use Rattle.rules.specs.Move.{rowOf, after, moveOf, entryMove}
+use Rattle.moves.specs.declared.inner.Row.{Row}
+use Rattle.moves.specs.declared.Marking.{Marking}
+use Rattle.moves.specs.declared.Entry.{Entry}
+use Rattle.moves.specs.declared.Refusal.{Refusal}
+use Rattle.moves.specs.declared.Verdict.{Verdict}
+use Rattle.rules.specs.Answers.{rowOf, entryMove}
+use Rattle.moves.specs.Move.{after, moveOf}
 use Rattle.folding.specs.Effect.{afterAll}
 use Rattle.laps.specs.declared.inner.Leg.{Leg}
 use Rattle.laps.specs.Endless.{stepAt, markingAt, verdictAt, DueAt, DoneAt, ExcludedAt, Waiting}

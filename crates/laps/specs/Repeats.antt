@@ -9,11 +9,12 @@ use native.Mathlib.Omega.{arith}
 use native.Mathlib.Decide.{decLt}
 use Rattle.sets.specs.Sets.{has}
 use Rattle.rules.specs.Graph.{Graph}
-use Rattle.rules.specs.declared.Marking.{Marking}
-use Rattle.rules.specs.declared.Entry.{Entry}
-use Rattle.rules.specs.declared.Verdict.{Verdict}
-use Rattle.rules.specs.First.{first}
-use Rattle.rules.specs.Move.{rowOf, after, entryLines}
+use Rattle.moves.specs.declared.Marking.{Marking}
+use Rattle.moves.specs.declared.Entry.{Entry}
+use Rattle.moves.specs.declared.Verdict.{Verdict}
+use Rattle.moves.specs.First.{first}
+use Rattle.rules.specs.Answers.{rowOf, entryLines}
+use Rattle.moves.specs.Move.{after}
 use Rattle.laps.specs.Endless.{markingAt, verdictAt, DueAt, DoneAt, ExcludedAt, GoesOn, Accepting, Waiting, Starving}
 use Rattle.laps.specs.Legs.{done-between, Ends, Kept}
 

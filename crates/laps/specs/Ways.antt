@@ -10,16 +10,17 @@ use lib.ListN.{length, drop, drop-of-length-le}
 use lib.Dec.{eqb}
 use Rattle.sets.specs.Sets.{full}
 use Rattle.rules.specs.Graph.{Graph}
-use Rattle.rules.specs.declared.Marking.{Marking}
-use Rattle.rules.specs.declared.Entry.{Entry}
-use Rattle.rules.specs.declared.Refusal.{Refusal}
-use Rattle.rules.specs.declared.Refusal.the-variants.{Length, Outside, EmptyLap}
-use Rattle.rules.specs.declared.Verdict.{Verdict}
-use Rattle.rules.specs.declared.Move.{Move}
-use Rattle.rules.specs.First.{first}
+use Rattle.moves.specs.declared.Marking.{Marking}
+use Rattle.moves.specs.declared.Entry.{Entry}
+use Rattle.moves.specs.declared.Refusal.{Refusal}
+use Rattle.moves.specs.declared.Refusal.the-variants.{Length, Outside, EmptyLap}
+use Rattle.moves.specs.declared.Verdict.{Verdict}
+use Rattle.moves.specs.declared.Move.{Move}
+use Rattle.moves.specs.First.{first}
 use Rattle.rules.specs.Graph.{graphLines, graphVerdict}
-use Rattle.rules.specs.Move.{entryMove, markingFits, markingLines}
-use Rattle.rules.specs.Laws.{first-clear, first-refused}
+use Rattle.rules.specs.Answers.{entryMove, markingLines}
+use Rattle.moves.specs.Move.{markingFits}
+use Rattle.moves.specs.Given.{first-clear, first-refused}
 use Rattle.journal.specs.declared.Ran.{Ran}
 use Rattle.journal.specs.Journal.{entries, entryAt, lengthFits}
 use Rattle.journal.specs.Run.{runOn}

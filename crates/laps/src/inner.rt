@@ -2,9 +2,9 @@
 ghost use mathlib.Core.Path.{_≡_};
 ghost use Prim.Native.Nat.{ℕ, _%_, _<_, _≤_};
 ghost use lib.ListN.{length};
-ghost use Rattle.rules.specs.declared.Verdict.{Verdict};
+ghost use Rattle.moves.specs.declared.Verdict.{Verdict};
 ghost use Rattle.rules.specs.Graph.{graphOf, graphVerdict};
-ghost use Rattle.rules.specs.Move.{entryMove};
+ghost use Rattle.rules.specs.Answers.{entryMove};
 ghost use Rattle.sets.specs.Sets.{lowest};
 ghost use Rattle.journal.specs.Journal.{entries};
 ghost use Rattle.laps.specs.declared.inner.Leg.{Leg};
@@ -17,12 +17,12 @@ use journal::quick::SINGLES;
 use journal::quick::allowed;
 use journal::quick::taken;
 use journal::run_entries;
-use rules::Entry;
+use moves::Entry;
 use rules::Job;
-use rules::Marking;
-use rules::Move;
-use rules::Refusal;
-use rules::Step;
+use moves::Marking;
+use moves::Move;
+use moves::Refusal;
+use moves::Step;
 use rules::inner::enter;
 
 // Every step there could be.

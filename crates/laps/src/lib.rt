@@ -4,10 +4,10 @@ ghost use Rattle.laps.specs.Laps.{LapAnswer};
 use crate::inner::decide;
 use journal::inner::length_fits;
 use rules::Job;
-use rules::Marking;
-use rules::Refusal;
-use rules::Step;
-use rules::Verdict;
+use moves::Marking;
+use moves::Refusal;
+use moves::Step;
+use moves::Verdict;
 
 pub mod inner;
 
@@ -40,7 +40,7 @@ pub fn lap<'a, 'b, 'c>(g: &'a Job, m: Marking, stem: &'b [u8], lap: &'c [u8]) ->
     if !(length_fits(stem) & length_fits(lap)) {
         return Lapped::Refused(Refusal::Length);
     }
-    if !rules::inner::fits(steps, m) {
+    if !moves::inner::fits(steps, m) {
         return Lapped::Refused(Refusal::Outside);
     }
     if lap.len() == 0 {

@@ -2,8 +2,8 @@
 use crate::say::say;
 use crate::say::say_count;
 use crate::say::say_number;
-use rules::Refusal;
-use rules::Told;
+use moves::Refusal;
+use moves::Told;
 
 fn say_low_words(number: u8) {
     match number {
@@ -50,13 +50,13 @@ pub fn say_told(t: Told) {
 
 pub fn say_refused(r: Refusal) {
     say(b"refused: ");
-    say_told(rules::tell(r));
+    say_told(moves::tell(r));
     say(b"\n");
 }
 
 // With 15 the step that is waited for; nothing with any other.
 pub fn say_waited(r: Refusal) {
-    let t = rules::tell(r);
+    let t = moves::tell(r);
     if t.number == 15 {
         say_count(b"waits for", t.step as u64);
     }

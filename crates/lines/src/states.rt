@@ -5,8 +5,8 @@ use crate::say::say_group;
 use crate::say::say_number;
 use records::Record;
 use rules::Ending;
-use rules::Entry;
-use rules::Marking;
+use moves::Entry;
+use moves::Marking;
 
 pub fn say_marking(m: Marking) {
     say_group(b"done", m.done);

@@ -6,9 +6,9 @@ use lines::states::say_marking;
 use records::Applied;
 use records::Record;
 use records::Recorded;
-use rules::Marking;
-use rules::Refusal;
-use rules::Verdict;
+use moves::Marking;
+use moves::Refusal;
+use moves::Verdict;
 use running::markings::keep_marking;
 use running::markings::say_kept;
 use running::runs::say_ran;
@@ -24,7 +24,7 @@ fn say_given(m: Marking, t: Target) {
 // 16 gives back the marking that was handed in.
 fn say_unapplied(r: Refusal, m: Marking) {
     say_refused(r);
-    if rules::tell(r).number == 16 {
+    if moves::tell(r).number == 16 {
         say_marking(m);
     }
 }

@@ -6,7 +6,7 @@ use lines::say::say_wrote;
 use lines::states::say_record;
 use records::Record;
 use records::Recorded;
-use rules::Verdict;
+use moves::Verdict;
 
 // The record of n steps to its file, and then its lines.
 fn keep_record(n: u8, r: Record, t: Target) {

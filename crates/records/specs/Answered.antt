@@ -8,12 +8,12 @@ use borrow.Author.Tests.{leb-true}
 use Rattle.sets.specs.Sets.{minus}
 use Rattle.sets.specs.Truth.{and-right}
 use Rattle.sets.specs.Laws.{union-lt, minus-lt}
-use Rattle.rules.specs.declared.Marking.{Marking}
-use Rattle.rules.specs.declared.Refusal.the-variants.{Counts, Outside, IllFormed, NotApplied}
-use Rattle.rules.specs.declared.Verdict.{Verdict}
-use Rattle.rules.specs.First.{first, number, numberOf}
-use Rattle.rules.specs.Graph.{within1to}
-use Rattle.rules.specs.Move.{markingFits}
+use Rattle.moves.specs.declared.Marking.{Marking}
+use Rattle.moves.specs.declared.Refusal.the-variants.{Counts, Outside, IllFormed, NotApplied}
+use Rattle.moves.specs.declared.Verdict.{Verdict}
+use Rattle.moves.specs.First.{first, number, numberOf}
+use Rattle.moves.specs.Move.{within1to}
+use Rattle.moves.specs.Move.{markingFits}
 use Rattle.rules.specs.Sound.{Inside}
 use Rattle.records.specs.declared.Record.{Record}
 use Rattle.records.specs.declared.Recorded.{Recorded}

@@ -3,12 +3,12 @@ use Prim.Native.Nat.{ℕ}
 use mathlib.Core.List.{List, [], _∷_}
 use mathlib.Core.Bool.{not, _&&_, cond}
 use lib.Dec.{leb}
-use Rattle.rules.specs.declared.Marking.{Marking}
-use Rattle.rules.specs.declared.Refusal.the-variants.{Counts, Outside, IllFormed, NotApplied}
-use Rattle.rules.specs.declared.Verdict.{Verdict}
-use Rattle.rules.specs.First.{Line, first, numberOf}
-use Rattle.rules.specs.Graph.{within1to}
-use Rattle.rules.specs.Move.{markingFits, noMarking}
+use Rattle.moves.specs.declared.Marking.{Marking}
+use Rattle.moves.specs.declared.Refusal.the-variants.{Counts, Outside, IllFormed, NotApplied}
+use Rattle.moves.specs.declared.Verdict.{Verdict}
+use Rattle.moves.specs.First.{Line, first, numberOf}
+use Rattle.moves.specs.Move.{within1to}
+use Rattle.moves.specs.Move.{markingFits, noMarking}
 use Rattle.records.specs.declared.Record.{Record}
 use Rattle.records.specs.declared.Recorded.{Recorded}
 use Rattle.records.specs.declared.Applied.{Applied}

@@ -5,10 +5,10 @@ use mathlib.Core.List.{List, [], _∷_, _++_}
 use mathlib.Core.Bool.{Bool, not, _&&_, cond}
 use lib.ListN.{length, getD, drop}
 use lib.Dec.{eqb, ltb, leb}
-use Rattle.rules.specs.declared.Refusal.the-variants.{Counts, IllFormed, Room}
-use Rattle.rules.specs.declared.Verdict.{Verdict}
-use Rattle.rules.specs.First.{Line, first}
-use Rattle.rules.specs.Graph.{within1to}
+use Rattle.moves.specs.declared.Refusal.the-variants.{Counts, IllFormed, Room}
+use Rattle.moves.specs.declared.Verdict.{Verdict}
+use Rattle.moves.specs.First.{Line, first}
+use Rattle.moves.specs.Move.{within1to}
 use Rattle.numbers.specs.Numbers.{number, bytes}
 use Rattle.records.specs.declared.Record.{Record}
 use Rattle.records.specs.declared.Recorded.{Recorded}

@@ -12,7 +12,7 @@ use Rattle.sets.specs.Sets.{union, meet, minus, empty}
 use Rattle.sets.specs.Truth.{and-right}
 use Rattle.sets.specs.Laws.{empty-union, minus-zero}
 use Rattle.sets.specs.Digits.{at-digit, as-sets, by-digits}
-use Rattle.rules.specs.declared.Marking.{Marking}
+use Rattle.moves.specs.declared.Marking.{Marking}
 use Rattle.records.specs.declared.Record.{Record}
 use Rattle.records.specs.Records.{applies, gives, acts, compose, sorted, tidy, impossible, join, identity}
 

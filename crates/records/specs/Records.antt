@@ -4,7 +4,7 @@ use mathlib.Core.List.{List, [], _∷_}
 use mathlib.Core.Bool.{Bool, true, false, not, _&&_, _||_, cond}
 use mathlib.Core.Option.{Option, none, some}
 use Rattle.sets.specs.Sets.{union, meet, minus, empty, subset, within}
-use Rattle.rules.specs.declared.Marking.{Marking}
+use Rattle.moves.specs.declared.Marking.{Marking}
 use Rattle.records.specs.declared.Record.{Record}
 
 -- ---- what a record does

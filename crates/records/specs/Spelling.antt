@@ -11,8 +11,8 @@ use lib.Pow.{pow-mono}
 use lib.Dec.{eqb, leb}
 use borrow.Author.Tests.{eq-eqb, le-leb, eqb-true, leb-true}
 use Rattle.sets.specs.Truth.{and-left, and-right}
-use Rattle.rules.specs.First.{first}
-use Rattle.rules.specs.Graph.{within1to}
+use Rattle.moves.specs.First.{first}
+use Rattle.moves.specs.Move.{within1to}
 use Rattle.numbers.specs.Numbers.{number, bytes, Bytes, Spliced}
 use Rattle.numbers.specs.Laws.{length-bytes, number-bytes, bytes-number, spliced-then, spliced-length}
 use Rattle.records.specs.declared.Record.{Record}

@@ -2,13 +2,13 @@
 ghost use mathlib.Core.Path.{_≡_};
 ghost use mathlib.Core.Bool.{true};
 ghost use Prim.Native.Nat.{ℕ, _≤_};
-ghost use Rattle.rules.specs.Graph.{within1to};
+ghost use Rattle.moves.specs.Move.{within1to};
 ghost use Rattle.records.specs.Answers.{appliedOn, theApplication};
 ghost use Rattle.records.specs.Records.{applies, gives, wellFormed, compose, sorted, tidy, join};
 use crate::Applied;
 use crate::Record;
-use rules::Marking;
-use rules::Refusal;
+use moves::Marking;
+use moves::Refusal;
 
 pub const NONE: Marking = Marking {
     done: 0,
@@ -95,7 +95,7 @@ pub fn applied_at(n: u64, r: Record, m: Marking) -> Applied
     requires { ⌜ (within1to n 64 ≡ true) × (wellFormed n r ≡ true) ⌝ }
     ensures { λ x. ⌜ x ≡ theApplication n r m ⌝ }
 {
-    if !rules::inner::fits(n, m) {
+    if !moves::inner::fits(n, m) {
         return Applied::Refused(Refusal::Outside, NONE);
     }
     applied(r, m)

@@ -2,9 +2,9 @@
 ghost use mathlib.Core.Path.{_≡_};
 ghost use Rattle.records.specs.Answers.{theJoin, theApplication};
 ghost use Rattle.records.specs.Bytes.{theReading, Writing};
-use rules::Marking;
-use rules::Refusal;
-use rules::Verdict;
+use moves::Marking;
+use moves::Refusal;
+use moves::Verdict;
 
 pub mod inner;
 pub mod layout;
@@ -69,7 +69,7 @@ impl Record {
         if !inner::counts(n) {
             return Applied::Refused(Refusal::Counts, inner::NONE);
         }
-        if !rules::inner::fits(n, m) {
+        if !moves::inner::fits(n, m) {
             return Applied::Refused(Refusal::Outside, inner::NONE);
         }
         if !inner::well_formed(n, self) {

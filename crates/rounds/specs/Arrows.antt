@@ -15,7 +15,7 @@ use borrow.Author.Tests.{lt-ltb, le-ltb, le-leb, ltb-true, eqb-true}
 use Rattle.sets.specs.Sets.{has, within}
 use Rattle.sets.specs.Truth.{and-left, and-right, and-intro, is-false, or-cases}
 use Rattle.sets.specs.Laws.{has-zero, has-above, ext, lt-of-members, every-of}
-use Rattle.rules.specs.Graph.{row, keeps}
+use Rattle.tables.specs.Tables.{row, keeps}
 use Rattle.arrows.specs.Arrows.{Arrow, known, allKnown, arrowsFit, rowAt, columnAt, tableOf, held, place, arrowAt, arrowsOf, pick, fourTables}
 use Rattle.arrows.specs.Lists.{member, listed-same}
 use Rattle.arrows.specs.Places.{Ranged, known-ranged, arrowAt-place, arrowAt-ranged}

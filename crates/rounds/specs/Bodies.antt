@@ -13,8 +13,8 @@ use lib.Dec.{ltb, lit<}
 use borrow.Author.Tests.{lt-ltb, le-ltb}
 use Rattle.sets.specs.Sets.{within}
 use Rattle.sets.specs.Laws.{every-at, every-of}
-use Rattle.rules.specs.declared.Marking.{Marking}
-use Rattle.rules.specs.Graph.{row, keeps}
+use Rattle.moves.specs.declared.Marking.{Marking}
+use Rattle.tables.specs.Tables.{row, keeps}
 use Rattle.numbers.specs.Numbers.{number, bytes, Bytes}
 use Rattle.numbers.specs.Laws.{number-bytes, bytes-number}
 use Rattle.layout.specs.Lists.{drop-past}

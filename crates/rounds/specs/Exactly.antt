@@ -8,10 +8,11 @@ use mathlib.Core.Bool.{Bool, true, false}
 use native.Mathlib.Omega.{arith}
 use lib.ListN.{length}
 use lib.Dec.{lit<}
-use Rattle.rules.specs.declared.Marking.{Marking}
-use Rattle.rules.specs.declared.Verdict.{Verdict}
-use Rattle.rules.specs.First.{first}
-use Rattle.rules.specs.Graph.{Graph, row}
+use Rattle.moves.specs.declared.Marking.{Marking}
+use Rattle.moves.specs.declared.Verdict.{Verdict}
+use Rattle.moves.specs.First.{first}
+use Rattle.rules.specs.Graph.{Graph}
+use Rattle.tables.specs.Tables.{row}
 use Rattle.numbers.specs.Numbers.{bytes, Bytes}
 use Rattle.arrows.specs.Arrows.{spelt, held, arrowAt, keptIf, listed, arrowsOf, fourTables}
 use Rattle.layout.specs.Layout.{contents, joined, start, front}

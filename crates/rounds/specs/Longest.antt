@@ -8,11 +8,12 @@ use lib.ListN.{length, replicate}
 use Rattle.sets.specs.Sets.{has, full, meet, empty, every}
 use Rattle.sets.specs.Truth.{and-intro}
 use Rattle.sets.specs.Laws.{has-meet, empty-members, every-at}
-use Rattle.rules.specs.declared.Marking.{Marking}
-use Rattle.rules.specs.declared.Verdict.{Verdict}
-use Rattle.rules.specs.First.{first}
-use Rattle.rules.specs.Graph.{Graph, row, keeps, setsFit}
-use Rattle.rules.specs.Move.{noMarking}
+use Rattle.moves.specs.declared.Marking.{Marking}
+use Rattle.moves.specs.declared.Verdict.{Verdict}
+use Rattle.moves.specs.First.{first}
+use Rattle.rules.specs.Graph.{Graph, setsFit}
+use Rattle.tables.specs.Tables.{row, keeps}
+use Rattle.moves.specs.Move.{noMarking}
 use Rattle.arrows.specs.Arrows.{put, putAll, listed}
 use Rattle.arrows.specs.Lists.{listed-apart}
 use Rattle.arrows.specs.Rows.{members, kindArrows, countOf, turned}

@@ -8,12 +8,13 @@ use mathlib.Core.Bool.{Bool, true, false, not, _&&_}
 use native.Mathlib.Omega.{arith}
 use lib.ListN.{length}
 use lib.Dec.{ltb}
-use Rattle.rules.specs.declared.Marking.{Marking}
-use Rattle.rules.specs.declared.Verdict.{Verdict}
-use Rattle.rules.specs.First.{Line, first, number, numberOf}
-use Rattle.rules.specs.Graph.{Graph, countsFit, setsFit, kindsApart}
-use Rattle.rules.specs.Move.{markingFits}
-use Rattle.rules.specs.Laws.{holds, ascends, first-holds, first-lowest}
+use Rattle.moves.specs.declared.Marking.{Marking}
+use Rattle.moves.specs.declared.Verdict.{Verdict}
+use Rattle.moves.specs.First.{Line, first, number, numberOf}
+use Rattle.rules.specs.Graph.{Graph, setsFit}
+use Rattle.tables.specs.Tables.{countsFit, kindsApart}
+use Rattle.moves.specs.Move.{markingFits}
+use Rattle.moves.specs.Given.{holds, ascends, first-holds, first-lowest}
 use Rattle.sheet.specs.Sheet.{graphOf, layoutFits, countsRight, bodiesMatch, setsInside, arrowsRight, readLines, readVerdict, sheetBytes, writeLines, writeVerdict, writtenOf, theWritten, numberOfWritten, lengthOfWritten}
 use Rattle.sets.specs.Truth.{or-false}
 

@@ -12,13 +12,14 @@ use lib.Dec.{eqb}
 use lib.Pow.{pow-mono}
 use borrow.Author.Tests.{eq-eqb, not-false}
 use Rattle.sets.specs.Truth.{and-right, and-intro}
-use Rattle.rules.specs.declared.Marking.{Marking}
-use Rattle.rules.specs.declared.Verdict.{Verdict}
-use Rattle.rules.specs.First.{first}
-use Rattle.rules.specs.Graph.{Graph, row, countsFit, kindsApart}
-use Rattle.rules.specs.Gathered.{Sized}
-use Rattle.rules.specs.Move.{markingFits, noMarking}
-use Rattle.rules.specs.Laws.{clear-head}
+use Rattle.moves.specs.declared.Marking.{Marking}
+use Rattle.moves.specs.declared.Verdict.{Verdict}
+use Rattle.moves.specs.First.{first}
+use Rattle.rules.specs.Graph.{Graph}
+use Rattle.tables.specs.Tables.{row, countsFit, kindsApart}
+use Rattle.tables.specs.Gathered.{Sized}
+use Rattle.moves.specs.Move.{markingFits, noMarking}
+use Rattle.moves.specs.Given.{clear-head}
 use Rattle.rules.specs.Sound.{Inside, inside-fits, keeps-row, keeps-gone}
 use Rattle.arrows.specs.Arrows.{Arrow, arrowsFit, arrowsIn, tableOf, arrowsOf, pick, fourTables}
 use Rattle.arrows.specs.Places.{arrowsIn-spelt, length-spelt}

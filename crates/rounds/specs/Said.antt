@@ -13,7 +13,8 @@ use borrow.Author.Tests.{eq-eqb, eqb-true}
 use Rattle.sets.specs.Sets.{has, meet, empty}
 use Rattle.sets.specs.Truth.{and-left, and-intro, or-cases, or-second, and-neither}
 use Rattle.sets.specs.Laws.{has-meet, empty-members, members-empty, every-at, every-of}
-use Rattle.rules.specs.Graph.{Graph, row, kindsApart}
+use Rattle.rules.specs.Graph.{Graph}
+use Rattle.tables.specs.Tables.{row, kindsApart}
 use Rattle.rules.specs.Paper.{condition, response, includes, excludes}
 use Rattle.arrows.specs.Arrows.{Arrow, allKnown, ascending, arrowsFit, tableOf, held, place, arrowAt, pick}
 use Rattle.arrows.specs.Lists.{member}

@@ -4,10 +4,11 @@ use mathlib.Core.Path.{_≡_, refl}
 use mathlib.Core.List.{List, [], _∷_, _++_}
 use lib.ListN.{length, replicate}
 use Rattle.sets.specs.Sets.{has, every}
-use Rattle.rules.specs.declared.Marking.{Marking}
-use Rattle.rules.specs.declared.Verdict.{Verdict}
-use Rattle.rules.specs.First.{first}
-use Rattle.rules.specs.Graph.{Graph, keeps, setsFit}
+use Rattle.moves.specs.declared.Marking.{Marking}
+use Rattle.moves.specs.declared.Verdict.{Verdict}
+use Rattle.moves.specs.First.{first}
+use Rattle.rules.specs.Graph.{Graph, setsFit}
+use Rattle.tables.specs.Tables.{keeps}
 use Rattle.numbers.specs.Numbers.{number, bytes}
 use Rattle.layout.specs.Layout.{contents, joined, follows}
 use Rattle.arrows.specs.Arrows.{arrowsIn, spelt, allKnown, ascending, put, putAll, held, listed, arrowsOf, pick}

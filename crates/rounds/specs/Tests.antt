@@ -13,10 +13,10 @@ use borrow.Author.Tests.{lt-ltb, le-ltb, ltb-true, le-leb, eq-eqb}
 use Rattle.sets.specs.Sets.{has, within}
 use Rattle.sets.specs.Truth.{and-intro, is-false}
 use Rattle.sets.specs.Laws.{has-zero, member-below, lt-of-members, every-at, every-of}
-use Rattle.rules.specs.declared.Marking.{Marking}
-use Rattle.rules.specs.Graph.{row, keeps, countsFit}
-use Rattle.rules.specs.Move.{markingFits}
-use Rattle.rules.specs.Laws.{Counted, counts-bound}
+use Rattle.moves.specs.declared.Marking.{Marking}
+use Rattle.tables.specs.Tables.{row, keeps, countsFit}
+use Rattle.moves.specs.Move.{markingFits}
+use Rattle.tables.specs.Laws.{Counted, counts-bound}
 use Rattle.rules.specs.Sound.{Inside, fits-inside, inside-fits, keeps-row, keeps-gone}
 use Rattle.layout.specs.Layout.{sizeAt}
 use Rattle.bodies.specs.Bodies.{setAt, roleSetsFit}

@@ -9,12 +9,13 @@ use lib.ListN.{length, drop}
 use lib.Seq.{sets, sets-eq}
 use borrow.Author.Tests.{not-false}
 use Rattle.sets.specs.Truth.{and-left, and-right, and-intro}
-use Rattle.rules.specs.declared.Marking.{Marking}
-use Rattle.rules.specs.declared.Verdict.{Verdict}
-use Rattle.rules.specs.First.{first}
-use Rattle.rules.specs.Graph.{Graph, row, keeps, countsFit, setsFit}
-use Rattle.rules.specs.Move.{markingFits, noMarking}
-use Rattle.rules.specs.Laws.{clear-head, clear-tail}
+use Rattle.moves.specs.declared.Marking.{Marking}
+use Rattle.moves.specs.declared.Verdict.{Verdict}
+use Rattle.moves.specs.First.{first}
+use Rattle.rules.specs.Graph.{Graph, setsFit}
+use Rattle.tables.specs.Tables.{row, keeps, countsFit}
+use Rattle.moves.specs.Move.{markingFits, noMarking}
+use Rattle.moves.specs.Given.{clear-head, clear-tail}
 use Rattle.arrows.specs.Arrows.{allKnown, ascending, spelt, tableOf}
 use Rattle.arrows.specs.Places.{spelt-arrowsIn}
 use Rattle.numbers.specs.Numbers.{Bytes}

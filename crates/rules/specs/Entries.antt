@@ -7,14 +7,15 @@ use lib.Dec.{ltb, leb}
 use borrow.Author.Tests.{ltb-true, le-leb, not-false}
 use Rattle.sets.specs.Truth.{and-left, and-right}
 use Rattle.rules.specs.Graph.{Graph}
-use Rattle.rules.specs.declared.Marking.{Marking}
-use Rattle.rules.specs.declared.Entry.{Entry}
-use Rattle.rules.specs.declared.Refusal.{Refusal}
-use Rattle.rules.specs.declared.Verdict.{Verdict}
-use Rattle.rules.specs.declared.Move.{Move}
-use Rattle.rules.specs.First.{first, numberOf}
-use Rattle.rules.specs.Move.{after, rowOf, known, entryLines, moveLines, entryMove, theMove, moveOf, noMarking}
-use Rattle.rules.specs.Laws.{clear-head, ascends, first-above}
+use Rattle.moves.specs.declared.Marking.{Marking}
+use Rattle.moves.specs.declared.Entry.{Entry}
+use Rattle.moves.specs.declared.Refusal.{Refusal}
+use Rattle.moves.specs.declared.Verdict.{Verdict}
+use Rattle.moves.specs.declared.Move.{Move}
+use Rattle.moves.specs.First.{first, numberOf}
+use Rattle.moves.specs.Move.{after, moveOf, noMarking}
+use Rattle.rules.specs.Answers.{rowOf, known, entryLines, moveLines, entryMove, theMove}
+use Rattle.moves.specs.Given.{clear-head, ascends, first-above}
 use Rattle.rules.specs.Sound.{Sound, Inside, after-inside}
 
 moved-of : (v : Verdict) (m a next : Marking) → moveOf v m a ≡ Move.Moved next → (v ≡ Verdict.Clear) × (a ≡ next)

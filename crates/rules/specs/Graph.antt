@@ -1,13 +1,12 @@
 -- Graphs (Definitions 3 and 5), and when one handed over as a value is refused.
 use Prim.Native.Nat.{ℕ}
 use mathlib.Core.List.{List, [], _∷_}
-use mathlib.Core.Bool.{Bool, not, _&&_, cond}
-use lib.ListN.{length, getD, take, drop}
-use lib.Dec.{ltb, leb}
-use Rattle.sets.specs.Sets.{meet, empty, within, every}
-use Rattle.rules.specs.declared.Refusal.the-variants.{Counts, Beyond, Both}
-use Rattle.rules.specs.declared.Verdict.{Verdict}
-use Rattle.rules.specs.First.{Line, first}
+use mathlib.Core.Bool.{Bool, not, _&&_}
+use lib.ListN.{take, drop}
+use Rattle.moves.specs.declared.Refusal.the-variants.{Counts, Beyond, Both}
+use Rattle.moves.specs.declared.Verdict.{Verdict}
+use Rattle.moves.specs.First.{Line, first}
+use Rattle.tables.specs.Tables.{row, countsFit, rolesFit, arrowsFit, kindsApart}
 
 -- a job: three counts, and tables of sets. Row b of `conditions` is what b waits for; row a of the next three is what a points at
 pub record Graph : Type 0 where
@@ -20,10 +19,6 @@ pub record Graph : Type 0 where
   pub excludes : List ℕ
   pub allows : List ℕ
   pub holds : List ℕ
-
--- row s of a table; nothing stands beyond its end
-abbrev pub row : List ℕ → ℕ → ℕ
-row table s = getD table s 0
 
 -- ---- a job as it is lent: one block of 339 words. No other place knows where a table stands
 
@@ -75,36 +70,11 @@ rolesHeld g p = row (g .holds) p
 
 -- ---- a graph handed over as a value
 
--- k is one of 1, 2, .., most
-abbrev pub within1to : ℕ → ℕ → Bool
-within1to k most = leb 1 k && leb k most
-
--- 2 is given unless there are 1 to 64 steps, 1 to 16 people and 1 to 16 roles
-abbrev pub countsFit : ℕ → ℕ → ℕ → Bool
-countsFit steps people roles = within1to steps 64 && within1to people 16 && within1to roles 16
-
--- a table that keeps a row for each number below `count`: such a row names nothing at or beyond `limit`, and any other row nothing at all
-unfoldable pub keeps : ℕ → ℕ → List ℕ → Bool
-keeps count limit table = every (length table) (λ i. within (cond (ltb i count) limit 0) (row table i))
-
--- the role sets of the steps and of the people
-abbrev pub rolesFit : ℕ → ℕ → ℕ → List ℕ → List ℕ → Bool
-rolesFit steps people roles allows holds = keeps steps roles allows && keeps people roles holds
-
--- the arrows of the four kinds
-abbrev pub arrowsFit : ℕ → List ℕ → List ℕ → List ℕ → List ℕ → Bool
-arrowsFit steps conditions responses includes excludes =
-    (keeps steps steps conditions && keeps steps steps responses) && (keeps steps steps includes && keeps steps steps excludes)
-
 -- 4 is given unless each set names only what there is, and nothing is stored beyond the counts
 unfoldable pub setsFit : Graph → Bool
 setsFit g =
     rolesFit (g .steps) (g .people) (g .roles) (g .allows) (g .holds)
     && arrowsFit (g .steps) (g .conditions) (g .responses) (g .includes) (g .excludes)
-
--- 6 is given unless no pair is both include and exclude
-abbrev pub kindsApart : ℕ → List ℕ → List ℕ → Bool
-kindsApart steps includes excludes = every steps (λ a. empty (meet (row includes a) (row excludes a)))
 
 -- the table for a graph
 abbrev pub graphLines : Graph → List Line

@@ -1,7 +1,5 @@
-pub mod First
 pub mod Graph
-pub mod Gathered
-pub mod Move
+pub mod Answers
 pub mod Laws
 pub mod Block
 pub mod Sound

@@ -8,15 +8,15 @@ use lib.Dec.{eqb}
 use borrow.Author.Tests.{not-false}
 use Rattle.sets.specs.Sets.{has, single, union, meet, minus, empty}
 use Rattle.sets.specs.Laws.{has-union, has-meet, has-minus, has-single, empty-members, members-empty}
-use Rattle.rules.specs.Graph.{Graph}
-use Rattle.rules.specs.declared.Marking.{Marking}
-use Rattle.rules.specs.declared.Entry.{Entry}
-use Rattle.rules.specs.declared.Verdict.{Verdict}
-use Rattle.rules.specs.declared.Move.{Move}
-use Rattle.rules.specs.First.{first, number, numberOf}
-use Rattle.rules.specs.Graph.{graphLines, graphVerdict, conditionsOf, responsesOf, includesOf, excludesOf, rolesOf, rolesHeld}
-use Rattle.rules.specs.Move.{theMove, moveOf, moveLines, entryLines, markingLines, rowLines, known, after, rowOf, waitsFor, isFinished, markingFits, numberOfMove, numberOfEnding, endingOf, theEnding}
-use Rattle.rules.specs.Laws.{ascends, holds, first-lowest, clear-head, clear-tail, clear-front, first-clear}
+use Rattle.rules.specs.Graph.{Graph, graphLines, graphVerdict, conditionsOf, responsesOf, includesOf, excludesOf, rolesOf, rolesHeld}
+use Rattle.moves.specs.declared.Marking.{Marking}
+use Rattle.moves.specs.declared.Entry.{Entry}
+use Rattle.moves.specs.declared.Verdict.{Verdict}
+use Rattle.moves.specs.declared.Move.{Move}
+use Rattle.moves.specs.First.{first, number, numberOf}
+use Rattle.rules.specs.Answers.{theMove, moveLines, entryLines, markingLines, known, rowOf, numberOfEnding, endingOf, theEnding}
+use Rattle.moves.specs.Move.{moveOf, rowLines, after, waitsFor, isFinished, markingFits, numberOfMove}
+use Rattle.moves.specs.Given.{ascends, holds, first-lowest, clear-head, clear-tail, clear-front, first-clear}
 use Rattle.rules.specs.Entries.{moved-clear, moved-after}
 
 -- ---- Definition 3: the relations

@@ -14,12 +14,15 @@ use borrow.Author.Tests.{ltb-true, lt-ltb, le-ltb, not-false}
 use Rattle.sets.specs.Sets.{has, single, union, meet, minus, empty, within}
 use Rattle.sets.specs.Truth.{and-left, and-right, and-intro}
 use Rattle.sets.specs.Laws.{every-at, has-zero, union-lt, minus-lt, single-lt}
-use Rattle.rules.specs.Graph.{Graph}
-use Rattle.rules.specs.declared.Marking.{Marking}
-use Rattle.rules.specs.declared.Verdict.{Verdict}
-use Rattle.rules.specs.Graph.{row, keeps, setsFit, kindsApart, graphVerdict, conditionsOf, responsesOf, includesOf, excludesOf, rolesOf, rolesHeld}
-use Rattle.rules.specs.Move.{after, markingFits, rowOf}
-use Rattle.rules.specs.Laws.{Counted, clear-counts, clear-head, clear-tail}
+use Rattle.rules.specs.Graph.{Graph, setsFit, graphVerdict, conditionsOf, responsesOf, includesOf, excludesOf, rolesOf, rolesHeld}
+use Rattle.moves.specs.declared.Marking.{Marking}
+use Rattle.moves.specs.declared.Verdict.{Verdict}
+use Rattle.tables.specs.Tables.{row, keeps, kindsApart}
+use Rattle.moves.specs.Move.{after, markingFits}
+use Rattle.rules.specs.Answers.{rowOf, known}
+use Rattle.tables.specs.Laws.{Counted}
+use Rattle.rules.specs.Laws.{clear-counts}
+use Rattle.moves.specs.Given.{clear-head, clear-tail}
 
 -- a table that keeps to its counts has no row beyond the limit
 pub keeps-row : (count limit : ℕ) (table : List ℕ) → keeps count limit table ≡ true → (i : ℕ) → row table i < 2 ^ limit

@@ -1,95 +1,26 @@
-// Taking a step on a graph with nothing against it, and on the numbers of its row, for loops that read one row an entry.
+// Taking a step on a graph with nothing against it.
 ghost use mathlib.Core.Path.{_≡_};
-ghost use Prim.Native.Nat.{ℕ, _+_, _<_, _≤_};
-ghost use Rattle.rules.specs.Graph.{tableAt, graphOf, row};
-ghost use Rattle.rules.specs.Move.{moveOf, moveOn, endingOn, entryMove, rowOf, rowLines, after, waitsFor, markingFits};
-ghost use Rattle.rules.specs.First.{first};
+ghost use Prim.Native.Nat.{_+_, _<_, _≤_};
+ghost use Rattle.moves.specs.declared.Verdict.{Verdict};
+ghost use Rattle.tables.specs.Tables.{row};
+ghost use Rattle.rules.specs.Graph.{tableAt, graphOf, graphVerdict};
+ghost use Rattle.rules.specs.Answers.{moveOn, endingOn, entryMove, rowOf};
 use crate::ALLOWS;
 use crate::CONDITIONS;
 use crate::EXCLUDES;
 use crate::Ending;
-use crate::Entry;
 use crate::HOLDS;
 use crate::INCLUDES;
 use crate::Job;
-use crate::Marking;
-use crate::Move;
-use crate::NONE;
 use crate::RESPONSES;
-use crate::Rank;
-use crate::Refusal;
-use crate::Step;
-
-// What an entry meets of the graph: the roles its person holds, the roles of its step, and the step's arrows.
-pub struct Row {
-    pub held: u64,
-    pub allows: u64,
-    pub conditions: u64,
-    pub responses: u64,
-    pub includes: u64,
-    pub excludes: u64,
-}
-
-// The conditions that are included and not done.
-pub fn waits(conditions: u64, m: Marking) -> u64
-    ensures { λ r. ⌜ r ≡ waitsFor conditions m ⌝ }
-{
-    let open = conditions & m.included;
-    open ^ (open & m.done)
-}
-
-// The marking after step s.
-pub fn moved(w: Row, m: Marking, s: u8) -> Marking
-    requires { ⌜ s < 64 ⌝ }
-    ensures { λ r. ⌜ r ≡ after w m s ⌝ }
-{
-    let one = sets::single(s);
-    let open = m.included | w.includes;
-    Marking {
-        done: m.done | one,
-        due: (m.due ^ (m.due & one)) | w.responses,
-        included: open ^ (open & w.excludes),
-    }
-}
-
-// An entry on its row. Refusals 12 to 15.
-pub fn take_row(w: Row, m: Marking, e: Entry) -> Move
-    requires { ⌜ (e .step .0 < 64) × (e .role < 64) ⌝ }
-    ensures { λ o. ⌜ o ≡ moveOf (first (rowLines w m e)) m (after w m (e .step .0)) ⌝ }
-{
-    let s = e.step.0;
-    let r = e.role;
-    if !sets::has(w.held, r) {
-        return Move::Refused(Refusal::NotHeld, m);
-    }
-    if !sets::has(w.allows, r) {
-        return Move::Refused(Refusal::NotOnStep, m);
-    }
-    if !sets::has(m.included, s) {
-        return Move::Refused(Refusal::Excluded, m);
-    }
-    let open = waits(w.conditions, m);
-    if open != 0 {
-        return Move::Refused(Refusal::Waits(Step(sets::lowest(open))), m);
-    }
-    Move::Moved(moved(w, m, s))
-}
-
-// Does the marking name only the n steps?
-pub fn fits(n: u64, m: Marking) -> bool
-    requires { ⌜ n ≤ 64 ⌝ }
-    ensures { λ r. ⌜ r ≡ markingFits n m ⌝ }
-{
-    (m.done | m.due) | m.included <= sets::full(n)
-}
-
-// The rank of a step.
-pub fn rank_of(s: Step) -> Rank
-    requires { ⌜ s .0 < 64 ⌝ }
-    ensures { λ r. ⌜ r .0 ≡ s .0 + 1 ⌝ }
-{
-    Rank(s.0 + 1)
-}
+use moves::Entry;
+use moves::Marking;
+use moves::Move;
+use moves::NONE;
+use moves::Refusal;
+use moves::inner::Row;
+use moves::inner::fits;
+use moves::inner::take_row;
 
 // Row s of the table of `count` rows from word `at` on.
 fn word(g: &Job, at: usize, count: usize, s: u8) -> u64
@@ -115,9 +46,9 @@ pub fn row_at(g: &Job, p: u8, s: u8) -> Row
     }
 }
 
-// An entry on a graph whose counts fit. Refusals 11 to 15.
+// An entry. Refusals 11 to 15.
 pub fn enter(g: &Job, m: Marking, e: Entry) -> Move
-    requires { ⌜ (graphOf (now g) .steps ≤ 64) × (graphOf (now g) .people ≤ 16) × (graphOf (now g) .roles ≤ 16) ⌝ }
+    requires { ⌜ graphVerdict (graphOf (now g)) ≡ Verdict.Clear ⌝ }
     ensures { λ r. ⌜ r ≡ entryMove (graphOf (now (g .entry))) m e ⌝ }
 {
     let p = e.person;
@@ -135,9 +66,9 @@ pub fn enter(g: &Job, m: Marking, e: Entry) -> Move
     take_row(row_at(g, p, s), m, e)
 }
 
-// A marking and an entry on a graph whose counts fit. Refusals 8, 11 to 15.
+// A marking and an entry. Refusals 8, 11 to 15.
 pub fn take_on(g: &Job, m: Marking, e: Entry) -> Move
-    requires { ⌜ (graphOf (now g) .steps ≤ 64) × (graphOf (now g) .people ≤ 16) × (graphOf (now g) .roles ≤ 16) ⌝ }
+    requires { ⌜ graphVerdict (graphOf (now g)) ≡ Verdict.Clear ⌝ }
     ensures { λ r. ⌜ r ≡ moveOn (graphOf (now (g .entry))) m e ⌝ }
 {
     if !fits(g[0], m) {

@@ -1,39 +1,20 @@
-// The paper's Definitions 3 to 5 as document 01 reads them: graphs, markings, and taking a step.
+// The paper's Definitions 3 to 5 as document 01 reads them: graphs, and taking a step on one.
 ghost use mathlib.Core.Path.{_≡_};
-ghost use Rattle.rules.specs.First.{toldOf};
 ghost use Rattle.rules.specs.Graph.{graphOf, graphVerdict};
-ghost use Rattle.rules.specs.Move.{theMove, theEnding};
+ghost use Rattle.rules.specs.Answers.{theMove, theEnding};
 use crate::inner::finished_on;
 use crate::inner::take_on;
-use crate::tables::arrows_checked;
-use crate::tables::counts_fit;
-use crate::tables::roles_fit;
+use moves::Entry;
+use moves::Marking;
+use moves::Move;
+use moves::NONE;
+use moves::Refusal;
+use moves::Verdict;
+use tables::arrows_checked;
+use tables::counts_fit;
+use tables::roles_fit;
 
 pub mod inner;
-pub mod tables;
-
-// A step, counted from 0.
-#[repr(C)]
-pub struct Step(pub u8);
-
-// A step's rank in the tracker, counted from 1.
-pub struct Rank(pub u8);
-
-// A person takes a step in a role.
-#[repr(C)]
-pub struct Entry {
-    pub person: u8,
-    pub step: Step,
-    pub role: u8,
-}
-
-// Three sets of steps: done before (Ex), due (Re), included (In).
-#[repr(C)]
-pub struct Marking {
-    pub done: u64,
-    pub due: u64,
-    pub included: u64,
-}
 
 // A job: the counts of steps, people and roles, then the tables, each from its first word on. A set is a word.
 pub const CONDITIONS: usize = 3;
@@ -52,108 +33,10 @@ pub const WORDS: usize = 339;
 
 pub type Job = [u64; WORDS];
 
-pub const NONE: Marking = Marking {
-    done: 0,
-    due: 0,
-    included: 0,
-};
-
-// The refusals of the whole house, in the order of document 01's table.
-pub enum Refusal {
-    Layout,
-    Counts,
-    Bodies,
-    Beyond,
-    Arrows,
-    Both,
-    Length,
-    Outside,
-    NoRank,
-    IllFormed,
-    Unknown,
-    NotHeld,
-    NotOnStep,
-    Excluded,
-    Waits(Step),
-    NotApplied,
-    EmptyLap,
-    Room,
-}
-
-// Nothing against the input, or the first refusal that holds.
-pub enum Verdict {
-    Clear,
-    Refused(Refusal),
-}
-
-// A step taken, with the marking after; or refused, with the marking handed in (below 11: an empty one).
-pub enum Move {
-    Moved(Marking),
-    Refused(Refusal, Marking),
-}
-
 pub enum Ending {
     Finished,
     Open,
     Refused(Refusal),
-}
-
-// What a refusal says: its number on the door, and with 15 the waiting step (0 with every other).
-pub struct Told {
-    pub number: u8,
-    pub step: u8,
-}
-
-pub fn tell(r: Refusal) -> Told
-    ensures { λ t. ⌜ t ≡ toldOf r ⌝ }
-{
-    match r {
-        Refusal::Layout => Told { number: 1, step: 0 },
-        Refusal::Counts => Told { number: 2, step: 0 },
-        Refusal::Bodies => Told { number: 3, step: 0 },
-        Refusal::Beyond => Told { number: 4, step: 0 },
-        Refusal::Arrows => Told { number: 5, step: 0 },
-        Refusal::Both => Told { number: 6, step: 0 },
-        Refusal::Length => Told { number: 7, step: 0 },
-        Refusal::Outside => Told { number: 8, step: 0 },
-        Refusal::NoRank => Told { number: 9, step: 0 },
-        Refusal::IllFormed => Told {
-            number: 10,
-            step: 0,
-        },
-        Refusal::Unknown => Told {
-            number: 11,
-            step: 0,
-        },
-        Refusal::NotHeld => Told {
-            number: 12,
-            step: 0,
-        },
-        Refusal::NotOnStep => Told {
-            number: 13,
-            step: 0,
-        },
-        Refusal::Excluded => Told {
-            number: 14,
-            step: 0,
-        },
-        Refusal::Waits(s) => Told {
-            number: 15,
-            step: s.0,
-        },
-        Refusal::NotApplied => Told {
-            number: 16,
-            step: 0,
-        },
-        Refusal::EmptyLap => Told {
-            number: 17,
-            step: 0,
-        },
-        Refusal::Room => Told {
-            number: 18,
-            step: 0,
-        },
-    }
 }
 
 // Is this a graph as document 01 has it? Refusals 2, 4, 6.

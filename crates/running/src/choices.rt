@@ -8,12 +8,12 @@ use lines::say::say_number;
 use lines::say::say_set;
 use lines::states::say_ending;
 use lines::states::say_marking;
-use rules::Entry;
+use moves::Entry;
 use rules::Graph;
-use rules::Marking;
-use rules::Move;
-use rules::Step;
-use rules::Verdict;
+use moves::Marking;
+use moves::Move;
+use moves::Step;
+use moves::Verdict;
 
 // The step stands first: the lines go step by step.
 fn say_may(e: Entry) {
@@ -77,7 +77,7 @@ fn say_choice(g: Graph, conditions: u64, m: Marking, s: u8) {
         say(b", not included\n");
         return;
     }
-    let waited = rules::inner::waits(conditions, m);
+    let waited = moves::inner::waits(conditions, m);
     if waited != 0 {
         say_blocked(s);
         say(b", waits for ");

@@ -6,8 +6,8 @@ use lines::refusals::say_refused;
 use lines::refusals::say_waited;
 use lines::say::say;
 use lines::say::say_count;
-use rules::Refusal;
-use rules::Verdict;
+use moves::Refusal;
+use moves::Verdict;
 
 fn say_pass(p: Pass) {
     match p {

@@ -2,7 +2,7 @@
 use files::writing::Target;
 use files::writing::store_to;
 use lines::say::say_wrote;
-use rules::Marking;
+use moves::Marking;
 
 // The marking as body 2 of a sheet has it. Is it written, or was nothing to be written?
 pub fn keep_marking(t: Target, m: Marking) -> bool {

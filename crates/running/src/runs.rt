@@ -12,9 +12,9 @@ use lines::states::say_ending;
 use lines::states::say_entry;
 use lines::states::say_marking;
 use rules::Graph;
-use rules::Marking;
-use rules::Refusal;
-use rules::Verdict;
+use moves::Marking;
+use moves::Refusal;
+use moves::Verdict;
 
 // Entry k of the journal, as a line.
 pub fn say_entry_at(j: &[u8], k: u16) {
@@ -29,7 +29,7 @@ pub fn say_entry_at(j: &[u8], k: u16) {
 // A refused run: from 11 on with the entry and the marking before it; 16 is no entry's, and has the marking alone.
 pub fn say_stopped(j: &[u8], k: u16, r: Refusal, m: Marking) {
     say_refused(r);
-    let number = rules::tell(r).number;
+    let number = moves::tell(r).number;
     if number < 11 {
         return;
     }

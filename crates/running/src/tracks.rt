@@ -8,10 +8,10 @@ use lines::say::say_flag;
 use lines::say::say_number;
 use lines::states::say_entry;
 use lines::states::say_marking;
-use rules::Entry;
+use moves::Entry;
 use rules::Graph;
-use rules::Refusal;
-use rules::Verdict;
+use moves::Refusal;
+use moves::Verdict;
 use tracker::Track;
 use tracker::Tracked;
 

@@ -5,10 +5,10 @@ use mathlib.Core.Bool.{Bool, false, _&&_, cond}
 use lib.Dec.{eqb}
 use Rattle.sets.specs.Sets.{single, union}
 use Rattle.rules.specs.declared.Graph.{Graph}
-use Rattle.rules.specs.declared.Marking.{Marking}
-use Rattle.rules.specs.declared.Entry.{Entry}
-use Rattle.rules.specs.declared.Move.{Move}
-use Rattle.rules.specs.Move.{numberOfMove, stepOfMove, markingOfMove}
+use Rattle.moves.specs.declared.Marking.{Marking}
+use Rattle.moves.specs.declared.Entry.{Entry}
+use Rattle.moves.specs.declared.Move.{Move}
+use Rattle.moves.specs.Move.{numberOfMove, stepOfMove, markingOfMove}
 use Rattle.records.specs.declared.Recorded.{Recorded}
 use Rattle.tracker.specs.declared.Tracked.{Tracked}
 use Rattle.tracker.specs.Tracker.{theStep}

@@ -9,14 +9,16 @@ use lib.Seq.{sets, sets-eq}
 use lib.Dec.{ltb}
 use borrow.Author.Tests.{not-false, lt-ltb, le-ltb}
 use Rattle.sets.specs.Truth.{and-left, and-right}
-use Rattle.rules.specs.declared.Marking.{Marking}
-use Rattle.rules.specs.declared.Verdict.{Verdict}
-use Rattle.rules.specs.declared.Refusal.{Refusal}
-use Rattle.rules.specs.declared.Refusal.the-variants.{Room}
-use Rattle.rules.specs.First.{first}
-use Rattle.rules.specs.Graph.{Graph, row, keeps, countsFit, setsFit, kindsApart}
-use Rattle.rules.specs.Move.{markingFits}
-use Rattle.rules.specs.Laws.{Counted, counts-bound, first-clear, first-refused, clear-head, clear-tail}
+use Rattle.moves.specs.declared.Marking.{Marking}
+use Rattle.moves.specs.declared.Verdict.{Verdict}
+use Rattle.moves.specs.declared.Refusal.{Refusal}
+use Rattle.moves.specs.declared.Refusal.the-variants.{Room}
+use Rattle.moves.specs.First.{first}
+use Rattle.rules.specs.Graph.{Graph, setsFit}
+use Rattle.tables.specs.Tables.{row, keeps, countsFit, kindsApart}
+use Rattle.moves.specs.Move.{markingFits}
+use Rattle.tables.specs.Laws.{Counted, counts-bound}
+use Rattle.moves.specs.Given.{first-clear, first-refused, clear-head, clear-tail}
 use Rattle.rules.specs.Sound.{Inside, fits-inside, keeps-row, keeps-gone}
 use Rattle.arrows.specs.Arrows.{spelt}
 use Rattle.arrows.specs.Places.{spelt-append}

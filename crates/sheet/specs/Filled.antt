@@ -8,10 +8,10 @@ use lib.Seq.{sets, sets-eq}
 use Rattle.rules.specs.Graph.{Graph}
 use Rattle.rules.specs.Block.{Tabled, blockOf}
 use Rattle.numbers.specs.Numbers.{Spliced}
-use Rattle.rules.specs.declared.Marking.{Marking}
-use Rattle.rules.specs.declared.Verdict.{Verdict}
-use Rattle.rules.specs.declared.Refusal.{Refusal}
-use Rattle.rules.specs.Move.{noMarking}
+use Rattle.moves.specs.declared.Marking.{Marking}
+use Rattle.moves.specs.declared.Verdict.{Verdict}
+use Rattle.moves.specs.declared.Refusal.{Refusal}
+use Rattle.moves.specs.Move.{noMarking}
 use Rattle.arrows.specs.Arrows.{tableOf}
 use Rattle.layout.specs.Layout.{bodyAt}
 use Rattle.bodies.specs.declared.Counts.{Counts as CountsOf}

@@ -9,12 +9,13 @@ use lib.Dec.{eqb, leb}
 use borrow.Author.Tests.{leb-true, eqb-true, not-false}
 use Rattle.sets.specs.Sets.{meet, empty, every}
 use Rattle.sets.specs.Truth.{and-left, and-right}
-use Rattle.rules.specs.declared.Verdict.{Verdict}
-use Rattle.rules.specs.declared.Refusal.{Refusal}
-use Rattle.rules.specs.declared.Refusal.the-variants.{Layout, Counts, Bodies, Beyond, Arrows, Both}
-use Rattle.rules.specs.First.{first}
-use Rattle.rules.specs.Graph.{row, kindsApart}
-use Rattle.rules.specs.Laws.{Counted, counts-bound, clear-head, clear-tail}
+use Rattle.moves.specs.declared.Verdict.{Verdict}
+use Rattle.moves.specs.declared.Refusal.{Refusal}
+use Rattle.moves.specs.declared.Refusal.the-variants.{Layout, Counts, Bodies, Beyond, Arrows, Both}
+use Rattle.moves.specs.First.{first}
+use Rattle.tables.specs.Tables.{row, kindsApart}
+use Rattle.tables.specs.Laws.{Counted, counts-bound}
+use Rattle.moves.specs.Given.{clear-head, clear-tail}
 use Rattle.arrows.specs.Arrows.{Arrow, arrowsFit, tableOf}
 use Rattle.arrows.specs.Places.{fit-places}
 use Rattle.arrows.specs.Loops.{filled, filled-all}

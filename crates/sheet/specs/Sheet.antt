@@ -4,13 +4,14 @@ use mathlib.Core.List.{List, [], _∷_, _++_}
 use mathlib.Core.Bool.{Bool, not, _&&_}
 use lib.ListN.{length, drop, replicate}
 use lib.Dec.{eqb, ltb, leb}
-use Rattle.rules.specs.declared.Marking.{Marking}
-use Rattle.rules.specs.declared.Verdict.{Verdict}
-use Rattle.rules.specs.declared.Refusal.the-variants.{Layout, Counts, Bodies, Beyond, Arrows, Both, Room}
-use Rattle.rules.specs.First.{Line, first, numberOf}
-use Rattle.rules.specs.Graph.{Graph, countsFit, setsFit, kindsApart}
+use Rattle.moves.specs.declared.Marking.{Marking}
+use Rattle.moves.specs.declared.Verdict.{Verdict}
+use Rattle.moves.specs.declared.Refusal.the-variants.{Layout, Counts, Bodies, Beyond, Arrows, Both, Room}
+use Rattle.moves.specs.First.{Line, first, numberOf}
+use Rattle.rules.specs.Graph.{Graph, setsFit}
+use Rattle.tables.specs.Tables.{countsFit, kindsApart}
 use Rattle.rules.specs.Block.{blockOf}
-use Rattle.rules.specs.Move.{markingFits, noMarking}
+use Rattle.moves.specs.Move.{markingFits, noMarking}
 use Rattle.arrows.specs.Arrows.{Arrow, arrowsIn, arrowsFit, tableOf, spelt, arrowsOf, fourTables}
 use Rattle.layout.specs.Layout.{laid, contentsFit, sizeAt, bodyAt}
 use Rattle.bodies.specs.declared.Counts.{Counts as CountsOf}

@@ -6,12 +6,13 @@ use mathlib.Core.Bool.{true, false}
 use native.Mathlib.Omega.{arith}
 use lib.ListN.{length, getD, length-append}
 use lib.Dec.{lit<}
-use Rattle.rules.specs.declared.Marking.{Marking}
-use Rattle.rules.specs.declared.Verdict.{Verdict}
-use Rattle.rules.specs.declared.Refusal.the-variants.{Counts, Beyond}
-use Rattle.rules.specs.First.{first}
-use Rattle.rules.specs.Graph.{Graph, row, countsFit, graphVerdict}
-use Rattle.rules.specs.Move.{markingFits}
+use Rattle.moves.specs.declared.Marking.{Marking}
+use Rattle.moves.specs.declared.Verdict.{Verdict}
+use Rattle.moves.specs.declared.Refusal.the-variants.{Counts, Beyond}
+use Rattle.moves.specs.First.{first}
+use Rattle.rules.specs.Graph.{Graph, graphVerdict}
+use Rattle.tables.specs.Tables.{row, countsFit}
+use Rattle.moves.specs.Move.{markingFits}
 use Rattle.arrows.specs.Arrows.{spelt}
 use Rattle.arrows.specs.Rows.{kindArrows, countOf}
 use Rattle.arrows.specs.Loops.{count-most, length-kind}

@@ -10,11 +10,11 @@ use crate::writing::content;
 use crate::writing::fill;
 use rules::CONDITIONS;
 use rules::Job;
-use rules::Marking;
-use rules::NONE;
+use moves::Marking;
+use moves::NONE;
 use rules::RESPONSES;
-use rules::Refusal;
-use rules::Verdict;
+use moves::Refusal;
+use moves::Verdict;
 
 pub mod reading;
 pub mod refusals;

@@ -5,16 +5,16 @@ ghost use mathlib.Core.Bool.{true, _&&_};
 ghost use lib.ListN.{length, replicate};
 ghost use lib.Dec.{eqb};
 ghost use Rattle.sets.specs.Sets.{meet, empty, every};
-ghost use Rattle.rules.specs.Graph.{row};
-ghost use Rattle.rules.specs.Move.{markingFits};
+ghost use Rattle.tables.specs.Tables.{row};
+ghost use Rattle.moves.specs.Move.{markingFits};
 ghost use Rattle.arrows.specs.Arrows.{tableOf};
 ghost use Rattle.layout.specs.Layout.{sizeAt, bodyAt};
 ghost use Rattle.bodies.specs.Bodies.{roleSetsFit};
 ghost use Rattle.sheet.specs.Sheet.{firstOf, arrowsOn, layoutFits, readVerdict};
 ghost use Rattle.sheet.specs.Judge.{Judged, Placed, typesApart};
 use bodies::Counts;
-use rules::Refusal;
-use rules::Verdict;
+use moves::Refusal;
+use moves::Verdict;
 
 fn layout_fits(s: &[u8]) -> bool
     ensures { λ r. ⌜ r ≡ layoutFits (now (s .entry)) ⌝ }
@@ -43,7 +43,7 @@ fn sets_inside(s: &[u8], c: Counts) -> bool
     ensures { λ r. ⌜ r ≡ (markingFits (c .steps) (firstOf (now (s .entry))) && roleSetsFit (c .roles) (bodyAt (now (s .entry)) 2) && roleSetsFit (c .roles) (bodyAt (now (s .entry)) 3)) ⌝ }
 {
     let m = bodies::read_marking(layout::body(s, 1));
-    rules::inner::fits(c.steps, m)
+    moves::inner::fits(c.steps, m)
         & bodies::role_sets_fit(layout::body(s, 2), c.roles)
         & bodies::role_sets_fit(layout::body(s, 3), c.roles)
 }
@@ -72,7 +72,7 @@ pub fn judge(s: &[u8], table: &mut [u64; 256]) -> Verdict
         return Verdict::Refused(Refusal::Layout);
     }
     let c = bodies::read_counts(layout::body(s, 0));
-    if !rules::tables::counts_fit(c.steps, c.people, c.roles) {
+    if !tables::counts_fit(c.steps, c.people, c.roles) {
         return Verdict::Refused(Refusal::Counts);
     }
     if !bodies_match(s, c) {

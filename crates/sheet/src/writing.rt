@@ -3,7 +3,7 @@ ghost use mathlib.Core.Path.{_≡_};
 ghost use Prim.Native.Nat.{ℕ, _+_, _*_, _≤_};
 ghost use mathlib.Core.List.{[], _∷_, _++_};
 ghost use lib.ListN.{length};
-ghost use Rattle.rules.specs.First.{first};
+ghost use Rattle.moves.specs.First.{first};
 ghost use Rattle.rules.specs.Graph.{graphOf};
 ghost use Rattle.numbers.specs.Numbers.{Spliced};
 ghost use Rattle.layout.specs.Layout.{front};
@@ -14,10 +14,10 @@ use rules::EXCLUDES;
 use rules::HOLDS;
 use rules::INCLUDES;
 use rules::Job;
-use rules::Marking;
+use moves::Marking;
 use rules::RESPONSES;
-use rules::Refusal;
-use rules::Verdict;
+use moves::Refusal;
+use moves::Verdict;
 use rules::WORDS;
 
 // Refusals 2, 4, 6.
@@ -27,10 +27,10 @@ pub fn content(g: &Job, m: Marking) -> Verdict
     let steps = g[0];
     let people = g[1];
     let roles = g[2];
-    if !rules::tables::counts_fit(steps, people, roles) {
+    if !tables::counts_fit(steps, people, roles) {
         return Verdict::Refused(Refusal::Counts);
     }
-    if !rules::inner::fits(steps, m) {
+    if !moves::inner::fits(steps, m) {
         return Verdict::Refused(Refusal::Beyond);
     }
     rules::check(g)

@@ -5,7 +5,7 @@ use lines::say::say_count;
 use lines::say::say_number;
 use lines::say::say_set;
 use rules::Graph;
-use rules::Marking;
+use moves::Marking;
 
 pub fn say_counts(g: Graph) {
     say_count(b"steps", g.steps as u64);

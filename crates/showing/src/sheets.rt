@@ -11,7 +11,7 @@ use lines::refusals::say_refused;
 use lines::say::say;
 use lines::say::say_wrote;
 use lines::states::say_ending;
-use rules::Verdict;
+use moves::Verdict;
 use sheet::Written;
 
 pub fn check(s: &[u8]) {

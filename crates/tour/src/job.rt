@@ -3,7 +3,7 @@
 // Steps: 0 reboot, 1 order check, 2 publish. Roles: 0 climber, 1 desk. Person 0 is a climber, person 1 sits at the desk.
 use lines::say::say;
 use rules::Graph;
-use rules::Marking;
+use moves::Marking;
 
 pub const REBOOT: [u8; 3] = [0, 0, 0];
 

@@ -17,11 +17,11 @@ use lines::states::say_marking;
 use lines::states::say_record;
 use records::Record;
 use records::Recorded;
-use rules::Entry;
+use moves::Entry;
 use rules::Graph;
-use rules::Marking;
-use rules::Move;
-use rules::Step;
+use moves::Marking;
+use moves::Move;
+use moves::Step;
 
 fn say_state(g: Graph, m: Marking) {
     say_marking(m);
@@ -55,7 +55,7 @@ fn tried(g: Graph, m: Marking, who: [u8; 3]) -> Marking {
         }
         Move::Refused(r, before) => {
             say(b"not allowed: ");
-            say_told(rules::tell(r));
+            say_told(moves::tell(r));
             say(b"\n");
             before
         }

@@ -12,17 +12,18 @@ use Rattle.sets.specs.Sets.{has, empty, full, lowest}
 use Rattle.sets.specs.Truth.{and-left, and-right, and-intro}
 use Rattle.sets.specs.Laws.{has-minus, has-full, empty-members, members-empty}
 use Rattle.rules.specs.Graph.{Graph}
-use Rattle.rules.specs.declared.Marking.{Marking}
-use Rattle.rules.specs.declared.Rank.{Rank}
-use Rattle.rules.specs.declared.Entry.{Entry}
-use Rattle.rules.specs.declared.Refusal.{Refusal}
-use Rattle.rules.specs.declared.Refusal.the-variants.{Outside, NoRank}
-use Rattle.rules.specs.declared.Verdict.{Verdict}
-use Rattle.rules.specs.declared.Move.{Move}
-use Rattle.rules.specs.First.{Line, first, numberOf}
+use Rattle.moves.specs.declared.Marking.{Marking}
+use Rattle.moves.specs.declared.Rank.{Rank}
+use Rattle.moves.specs.declared.Entry.{Entry}
+use Rattle.moves.specs.declared.Refusal.{Refusal}
+use Rattle.moves.specs.declared.Refusal.the-variants.{Outside, NoRank}
+use Rattle.moves.specs.declared.Verdict.{Verdict}
+use Rattle.moves.specs.declared.Move.{Move}
+use Rattle.moves.specs.First.{Line, first, numberOf}
 use Rattle.rules.specs.Graph.{graphLines, graphVerdict}
-use Rattle.rules.specs.Move.{markingFits, markingLines, entryLines, moveLines, theMove, entryMove, moveOf, rowOf, after}
-use Rattle.rules.specs.Laws.{first-clear, first-refused, first-below, numbersBelow, ascends, clear-head, clear-tail, first-above, clear-front, clear-back}
+use Rattle.moves.specs.Move.{markingFits, moveOf, after}
+use Rattle.rules.specs.Answers.{markingLines, entryLines, moveLines, theMove, entryMove, rowOf}
+use Rattle.moves.specs.Given.{first-clear, first-refused, first-below, numbersBelow, ascends, clear-head, clear-tail, first-above, clear-front, clear-back}
 use Rattle.rules.specs.Entries.{clear-moved, moved-clear, moved-after}
 use Rattle.tracker.specs.declared.Track.{Track}
 use Rattle.tracker.specs.declared.Tracked.{Tracked}

@@ -1,16 +1,16 @@
 // What is against graph and marking, and the tracker's rule on states.
 ghost use mathlib.Core.Path.{_≡_};
 ghost use Prim.Native.Nat.{_<_, _≤_};
-ghost use Rattle.rules.specs.First.{first};
+ghost use Rattle.moves.specs.First.{first};
 ghost use Rattle.rules.specs.Graph.{graphOf};
 ghost use Rattle.tracker.specs.Tracker.{above, pool, begin, rest, trackAfter, isRank, meets, startLines};
 use crate::Track;
 use rules::Job;
-use rules::Marking;
-use rules::Rank;
-use rules::Refusal;
-use rules::Step;
-use rules::Verdict;
+use moves::Marking;
+use moves::Rank;
+use moves::Refusal;
+use moves::Step;
+use moves::Verdict;
 
 // What is against the graph and the marking. Refusals 2, 4, 6, 8.
 pub fn sound(g: &Job, m: Marking) -> Verdict
@@ -20,7 +20,7 @@ pub fn sound(g: &Job, m: Marking) -> Verdict
     if let Verdict::Refused(r) = v {
         return Verdict::Refused(r);
     }
-    if !rules::inner::fits(g[0], m) {
+    if !moves::inner::fits(g[0], m) {
         return Verdict::Refused(Refusal::Outside);
     }
     Verdict::Clear
@@ -104,7 +104,7 @@ pub fn follow(t: Track, next: Marking, e: Step) -> Track
     if meets(x, e.0, q) {
         return Track {
             marking: next,
-            rank: rules::inner::rank_of(Step(x)),
+            rank: moves::inner::rank_of(Step(x)),
             flag: true,
         };
     }

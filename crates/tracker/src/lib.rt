@@ -7,13 +7,13 @@ use crate::inner::follow;
 use crate::inner::ranked;
 use crate::inner::rest;
 use crate::inner::sound;
-use rules::Entry;
+use moves::Entry;
 use rules::Job;
-use rules::Marking;
-use rules::Move;
-use rules::Rank;
-use rules::Refusal;
-use rules::Verdict;
+use moves::Marking;
+use moves::Move;
+use moves::Rank;
+use moves::Refusal;
+use moves::Verdict;
 
 pub mod inner;
 

@@ -7,8 +7,8 @@ ghost use Rattle.words.specs.Folded.{spoilt, recordOr, recordIn, recordO
 use records::Applied;
 use records::Record;
 use records::Recorded;
-use rules::Marking;
-use rules::Verdict;
+use moves::Marking;
+use moves::Verdict;
 
 // What stands in for bytes or words that spell no record: it is not well-formed, for never is on beside a set.
 const SPOILT: Record = Record {

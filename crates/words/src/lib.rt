@@ -4,10 +4,10 @@ ghost use Rattle.words.specs.Words.{refusalWord, verdictWord, moveWord, 
 use journal::Ran;
 use journal::Walked;
 use rules::Ending;
-use rules::Marking;
-use rules::Move;
-use rules::Refusal;
-use rules::Verdict;
+use moves::Marking;
+use moves::Move;
+use moves::Refusal;
+use moves::Verdict;
 use tracker::Track;
 use tracker::Tracked;
 
@@ -16,7 +16,7 @@ pub mod folded;
 pub fn refusal(r: Refusal) -> u16
     ensures { λ w. ⌜ w ≡ refusalWord r ⌝ }
 {
-    let t = rules::tell(r);
+    let t = moves::tell(r);
     t.number as u16 + 256 * (t.step as u16)
 }
 

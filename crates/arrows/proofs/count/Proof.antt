@@ -4,7 +4,7 @@ use mathlib.Core.Path.{_≡_, refl, sym, ap, ap₂, _∙_}
 use native.Mathlib.Omega.{arith}
 use lib.ListN.{length}
 use borrow.Author.Needs.{needs}
-use Rattle.rules.specs.Graph.{row}
+use Rattle.tables.specs.Tables.{row}
 use Rattle.arrows.specs.Rows.{members, countOf}
 use Rattle.arrows.specs.Loops.{count-more, count-most}
 use Rattle.arrows.proofs.count.Statement.{statement}

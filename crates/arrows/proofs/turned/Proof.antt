@@ -5,7 +5,7 @@ use mathlib.Core.List.{List}
 use native.Mathlib.Omega.{arith}
 use lib.ListN.{replicate}
 use borrow.Author.Needs.{needs}
-use Rattle.rules.specs.Graph.{row}
+use Rattle.tables.specs.Tables.{row}
 use Rattle.arrows.specs.Arrows.{putAll}
 use Rattle.arrows.specs.Rows.{rowArrows, kindArrows, turned}
 use Rattle.arrows.specs.Loops.{turn-more}

@@ -6,7 +6,7 @@ use native.Mathlib.Omega.{arith}
 use lib.ListN.{length, set, length-set}
 use lib.Seq.{sets}
 use borrow.Author.Needs.{needs}
-use Rattle.rules.specs.Graph.{row}
+use Rattle.tables.specs.Tables.{row}
 use Rattle.bodies.specs.Tables.{tabled, fill-more, fill-done}
 use Rattle.bodies.proofs.read_rows.Statement.{statement}
 use Rattle.bodies.proofs.read_rows.Tie as tie

@@ -3,10 +3,11 @@ use mathlib.Core.Path.{_≡_, sym, ap, _∙_}
 use native.Mathlib.Omega.{arith}
 use borrow.Author.Needs.{needs}
 use Rattle.rules.specs.declared.Graph.{Graph}
-use Rattle.rules.specs.declared.Verdict.{Verdict}
+use Rattle.moves.specs.declared.Verdict.{Verdict}
 use Rattle.rules.specs.Graph.{lentGraph, graphVerdict}
-use Rattle.rules.specs.Move.{endingOn}
-use Rattle.rules.specs.Laws.{Counted, clear-counts, ending-refused, ending-clear}
+use Rattle.rules.specs.Answers.{endingOn}
+use Rattle.tables.specs.Laws.{Counted}
+use Rattle.rules.specs.Laws.{clear-counts, ending-refused, ending-clear}
 use Rattle.words.specs.Words.{endingWord, markingIn}
 use Rattle.door.proofs.ulz_finished.Statement.{statement}
 use Rattle.door.proofs.ulz_finished.Tie as tie

@@ -3,12 +3,14 @@ use mathlib.Core.Path.{_≡_, sym, ap, _∙_}
 use native.Mathlib.Omega.{arith}
 use borrow.Author.Needs.{needs}
 use Rattle.rules.specs.declared.Graph.{Graph}
-use Rattle.rules.specs.declared.Marking.{Marking}
-use Rattle.rules.specs.declared.Move.{Move}
-use Rattle.rules.specs.declared.Verdict.{Verdict}
+use Rattle.moves.specs.declared.Marking.{Marking}
+use Rattle.moves.specs.declared.Move.{Move}
+use Rattle.moves.specs.declared.Verdict.{Verdict}
 use Rattle.rules.specs.Graph.{lentGraph, graphVerdict}
-use Rattle.rules.specs.Move.{theMove, moveOn, noMarking}
-use Rattle.rules.specs.Laws.{Counted, clear-counts, move-refused, move-clear}
+use Rattle.rules.specs.Answers.{theMove, moveOn}
+use Rattle.moves.specs.Move.{noMarking}
+use Rattle.tables.specs.Laws.{Counted}
+use Rattle.rules.specs.Laws.{clear-counts, move-refused, move-clear}
 use Rattle.words.specs.Words.{moveWord, markingIn, markingOut, entryOf}
 use Rattle.door.proofs.ulz_take.Statement.{statement}
 use Rattle.door.proofs.ulz_take.Tie as tie

@@ -1,6 +1,6 @@
 -- `ulz_take`: the move's number and values. Assumes nothing.
 use mathlib.Core.Path.{ap, _∙_}
-use Rattle.rules.specs.Move.{numberOfMove, stepOfMove, markingOfMove}
+use Rattle.moves.specs.Move.{numberOfMove, stepOfMove, markingOfMove}
 use borrow.Author.Needs.{needs}
 use Rattle.door3.proofs.ulz_take.Statement.{statement}
 use Rattle.door3.proofs.ulz_take.Tie as tie

@@ -3,7 +3,7 @@ use mathlib.Core.Path.{_≡_, sym, _∙_, ap}
 use mathlib.Core.Bool.{true, false}
 use borrow.Author.Needs.{needs}
 use borrow.Author.Tests.{not-true, not-false}
-use Rattle.rules.specs.declared.Verdict.{Verdict}
+use Rattle.moves.specs.declared.Verdict.{Verdict}
 use Rattle.rules.specs.Graph.{Graph, graphOf, graphVerdict}
 use Rattle.journal.specs.Journal.{lengthFits}
 use Rattle.journal.specs.Laws.{fits-threes}

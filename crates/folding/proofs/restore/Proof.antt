@@ -4,11 +4,12 @@ use mathlib.Core.Path.{_≡_, sym, _∙_, ap}
 use mathlib.Core.Bool.{true, false}
 use borrow.Author.Needs.{needs}
 use borrow.Author.Tests.{not-true, not-false}
-use Rattle.rules.specs.declared.Marking.{Marking}
-use Rattle.rules.specs.declared.Verdict.{Verdict}
+use Rattle.moves.specs.declared.Marking.{Marking}
+use Rattle.moves.specs.declared.Verdict.{Verdict}
 use Rattle.rules.specs.Graph.{Graph, graphOf, graphVerdict}
-use Rattle.rules.specs.Move.{markingFits}
-use Rattle.rules.specs.Laws.{Counted, clear-counts}
+use Rattle.moves.specs.Move.{markingFits}
+use Rattle.tables.specs.Laws.{Counted}
+use Rattle.rules.specs.Laws.{clear-counts}
 use Rattle.journal.specs.Journal.{entries, lengthFits}
 use Rattle.journal.specs.Run.{runOn}
 use Rattle.journal.specs.Laws.{fits-threes, fits-most}

@@ -4,10 +4,11 @@ use mathlib.Core.Bool.{true, false}
 use native.Mathlib.Omega.{arith}
 use borrow.Author.Needs.{needs}
 use borrow.Author.Tests.{not-true, not-false}
-use Rattle.rules.specs.declared.Verdict.{Verdict}
+use Rattle.moves.specs.declared.Verdict.{Verdict}
 use Rattle.rules.specs.Graph.{Graph, graphOf, graphVerdict}
-use Rattle.rules.specs.Move.{markingFits}
-use Rattle.rules.specs.Laws.{Counted, clear-counts}
+use Rattle.moves.specs.Move.{markingFits}
+use Rattle.tables.specs.Laws.{Counted}
+use Rattle.rules.specs.Laws.{clear-counts}
 use Rattle.journal.specs.Journal.{lengthFits}
 use Rattle.journal.specs.Laws.{fits-threes, fits-most, run-graph, run-length, run-outside, run-inside}
 use Rattle.journal.proofs.run.Statement.{statement}

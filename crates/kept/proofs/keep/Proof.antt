@@ -41,7 +41,7 @@ use denote.Triple.Spec.{Meets, tripleOf}
 use denote.Triple.Table.{entered, cited}
 use denote.Triple.Walked.{says, Stays, stay-ref, stay-none, stay-none-ref, walkOf, AllGo, goes-ref, goes-none, goes-none-ref, Walks, ends-at, walked, walk-meets}
 use denote.Exit.{yes}
-use Rattle.rules.specs.declared.Marking.{Marking}
+use Rattle.moves.specs.declared.Marking.{Marking}
 use Rattle.rules.specs.Graph.{graphOf}
 use Rattle.kept.specs.Keep.{theKept}
 use Rattle.kept.specs.declared.Kept.{Kept}

@@ -7,10 +7,11 @@ use lib.Dec.{eqb}
 use borrow.Author.Needs.{needs}
 use borrow.Author.Tests.{not-true, not-false, eq-eqb, ne-eqb}
 use Rattle.sets.specs.Truth.{and-left, and-right}
-use Rattle.rules.specs.declared.Verdict.{Verdict}
+use Rattle.moves.specs.declared.Verdict.{Verdict}
 use Rattle.rules.specs.Graph.{Graph, graphOf, graphVerdict}
-use Rattle.rules.specs.Move.{markingFits}
-use Rattle.rules.specs.Laws.{Counted, clear-counts}
+use Rattle.moves.specs.Move.{markingFits}
+use Rattle.tables.specs.Laws.{Counted}
+use Rattle.rules.specs.Laws.{clear-counts}
 use Rattle.journal.specs.Journal.{lengthFits}
 use Rattle.journal.specs.Laws.{fits-threes, fits-most}
 use Rattle.laps.specs.Laps.{LapAnswer}

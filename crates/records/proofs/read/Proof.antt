@@ -3,7 +3,7 @@ use mathlib.Core.Path.{sym, ap, _∙_}
 use mathlib.Core.Bool.{not}
 use borrow.Author.Needs.{needs}
 use borrow.Author.Tests.{not-false, ne-eqb, eq-eqb, lt-leb, le-leb}
-use Rattle.rules.specs.First.{first}
+use Rattle.moves.specs.First.{first}
 use Rattle.records.specs.Records.{wellFormed}
 use Rattle.records.specs.Answers.{recordedOf}
 use Rattle.records.specs.Bytes.{theReading}

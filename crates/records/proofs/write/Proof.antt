@@ -3,7 +3,7 @@ use mathlib.Core.Path.{sym, ap, _∙_}
 use mathlib.Core.Bool.{not}
 use borrow.Author.Needs.{needs}
 use borrow.Author.Tests.{not-false, lt-ltb, le-ltb}
-use Rattle.rules.specs.First.{first}
+use Rattle.moves.specs.First.{first}
 use Rattle.records.specs.Bytes.{roomOf}
 use Rattle.records.specs.Answered.{counts-most}
 use Rattle.records.proofs.write.Statement.{statement}

@@ -4,9 +4,11 @@ use mathlib.Core.Bool.{not, _&&_}
 use native.Mathlib.Omega.{arith}
 use lib.ListN.{length}
 use borrow.Author.Tests.{not-false}
-use Rattle.rules.specs.First.{first}
-use Rattle.rules.specs.Graph.{Graph, row, graphOf, setsFit, kindsApart}
-use Rattle.rules.specs.Laws.{Counted, counts-bound, rows-at}
+use Rattle.moves.specs.First.{first}
+use Rattle.rules.specs.Graph.{Graph, graphOf, setsFit}
+use Rattle.tables.specs.Tables.{row, kindsApart}
+use Rattle.tables.specs.Laws.{Counted, counts-bound}
+use Rattle.rules.specs.Laws.{rows-at}
 use borrow.Author.Needs.{needs}
 use Rattle.rules.proofs.check.Statement.{statement}
 use Rattle.rules.proofs.check.Tie as tie

@@ -2,7 +2,7 @@
 use mathlib.Core.Path.{sym, _∙_}
 use borrow.Author.Needs.{needs}
 use Rattle.rules.specs.Graph.{graphOf}
-use Rattle.rules.specs.Laws.{clear-counts, move-refused, move-clear}
+use Rattle.rules.specs.Laws.{move-refused, move-clear}
 use Rattle.rules.proofs.take.Statement.{statement}
 use Rattle.rules.proofs.take.Tie as tie
 
@@ -21,9 +21,7 @@ enum-told : tie.Need-enum-told
 enum-told c = search needs
 
 take-on-requires : tie.Need-take-on-requires
-take-on-requires c κs =
-    let b = clear-counts (graphOf (c .before .before .before .args .g .now)) (sym (c .before .before .check .ensures) ∙ c .enum-told .given .1) in
-    (b .steps-most, b .people-most, b .roles-most)
+take-on-requires c κs = sym (c .before .before .check .ensures) ∙ c .enum-told .given .1
 
 returns-2 : tie.Need-returns-2
 returns-2 c =

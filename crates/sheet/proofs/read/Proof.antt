@@ -6,7 +6,7 @@ use native.Mathlib.Omega.{arith}
 use lib.ListN.{length}
 use lib.Dec.{lit<}
 use borrow.Author.Needs.{needs}
-use Rattle.rules.specs.declared.Verdict.{Verdict}
+use Rattle.moves.specs.declared.Verdict.{Verdict}
 use Rattle.arrows.specs.Loops.{filled}
 use Rattle.layout.specs.Layout.{bodyAt}
 use Rattle.bodies.specs.Bodies.{markingIn}

@@ -4,9 +4,9 @@ use mathlib.Core.Path.{_≡_, sym, _∙_, ap}
 use mathlib.Core.Bool.{true}
 use native.Mathlib.Omega.{arith}
 use borrow.Author.Tests.{not-true, not-false}
-use Rattle.rules.specs.declared.Move.{Move}
-use Rattle.rules.specs.declared.Verdict.{Verdict}
-use Rattle.rules.specs.First.{first}
+use Rattle.moves.specs.declared.Move.{Move}
+use Rattle.moves.specs.declared.Verdict.{Verdict}
+use Rattle.moves.specs.First.{first}
 use Rattle.rules.specs.Graph.{Graph, graphOf}
 use Rattle.rules.specs.Laws.{clear-counts}
 use Rattle.tracker.specs.declared.Tracked.{Tracked}

@@ -1,7 +1,7 @@
 -- `words::moved`: a move is stored, a refusal leaves the words as they were. Assumes nothing.
 use mathlib.Core.Path.{sym, ap, _∙_}
 use borrow.Author.Needs.{needs}
-use Rattle.rules.specs.declared.Move.{Move}
+use Rattle.moves.specs.declared.Move.{Move}
 use Rattle.words.specs.Words.{moveWord, markingOut}
 use Rattle.words.proofs.moved.Statement.{statement}
 use Rattle.words.proofs.moved.Tie as tie

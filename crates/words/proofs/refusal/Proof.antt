@@ -1,6 +1,6 @@
 -- `words::refusal`: the number and 256 times the step, as the refusal tells them. Assumes nothing.
 use borrow.Author.Needs.{needs}
-use Rattle.rules.specs.First.{toldOf}
+use Rattle.moves.specs.First.{toldOf}
 use Rattle.words.specs.Words.{refusalWord}
 use Rattle.words.proofs.refusal.Statement.{statement}
 use Rattle.words.proofs.refusal.Tie as tie

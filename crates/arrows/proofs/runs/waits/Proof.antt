@@ -9,7 +9,7 @@ use Rattle.arrows.specs.Arrows.{place, put}
 use Rattle.arrows.specs.Places.{Ranged, known-ranged}
 use Rattle.arrows.specs.Loops.{arrowIn, Goes, goes-start, goes-then}
 use Rattle.sets.specs.Sets.{union}
-use Rattle.rules.specs.Graph.{row}
+use Rattle.tables.specs.Tables.{row}
 use Rattle.arrows.specs.Runs.{On, on, base, wait-start, wait-more}
 use Rattle.arrows.proofs.runs.waits.Statement.{statement}
 use Rattle.arrows.proofs.runs.waits.Tie as tie

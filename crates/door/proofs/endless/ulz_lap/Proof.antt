@@ -2,7 +2,7 @@
 use mathlib.Core.Path.{subst}
 use borrow.Author.Needs.{needs}
 use Rattle.rules.specs.declared.Graph.{Graph}
-use Rattle.rules.specs.declared.Marking.{Marking}
+use Rattle.moves.specs.declared.Marking.{Marking}
 use Rattle.rules.specs.Graph.{lentGraph}
 use Rattle.laps.specs.Laps.{LapAnswer}
 use Rattle.door.proofs.endless.ulz_lap.Statement.{statement}

@@ -2,8 +2,8 @@
 use mathlib.Core.Path.{_≡_, ap, _∙_}
 use borrow.Author.Needs.{needs}
 use Rattle.rules.specs.declared.Graph.{Graph}
-use Rattle.rules.specs.declared.Marking.{Marking}
-use Rattle.rules.specs.declared.Move.{Move}
+use Rattle.moves.specs.declared.Marking.{Marking}
+use Rattle.moves.specs.declared.Move.{Move}
 use Rattle.rules.specs.Graph.{lentGraph}
 use Rattle.kept.specs.declared.Kept.{Kept}
 use Rattle.kept.specs.Keep.{theKept}

@@ -2,7 +2,7 @@
 use mathlib.Core.Path.{_≡_, ap, _∙_}
 use borrow.Author.Needs.{needs}
 use Rattle.rules.specs.declared.Graph.{Graph}
-use Rattle.rules.specs.declared.Marking.{Marking}
+use Rattle.moves.specs.declared.Marking.{Marking}
 use Rattle.rules.specs.Graph.{lentGraph}
 use Rattle.journal.specs.declared.Ran.{Ran}
 use Rattle.journal.specs.Run.{theRun}

@@ -3,7 +3,7 @@ use mathlib.Core.Path.{ap, _∙_}
 use lib.ListN.{length}
 use borrow.Author.Needs.{needs}
 use Rattle.rules.specs.declared.Graph.{Graph}
-use Rattle.rules.specs.declared.Marking.{Marking}
+use Rattle.moves.specs.declared.Marking.{Marking}
 use Rattle.rules.specs.Graph.{lentGraph}
 use Rattle.sheet.specs.Sheet.{theWritten, roomAfter}
 use Rattle.words.specs.Words.{writtenLength}

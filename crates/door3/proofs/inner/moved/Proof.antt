@@ -1,6 +1,6 @@
 -- `inner::moved`: each arm is the definitions at its constructor. Assumes nothing.
 use mathlib.Core.Path.{sym, ap, _∙_}
-use Rattle.rules.specs.Move.{numberOfMove, stepOfMove, markingOfMove}
+use Rattle.moves.specs.Move.{numberOfMove, stepOfMove, markingOfMove}
 use borrow.Author.Needs.{needs}
 use Rattle.door3.proofs.inner.moved.Statement.{statement}
 use Rattle.door3.proofs.inner.moved.Tie as tie

@@ -1,5 +1,5 @@
 -- `inner::said`: what the refusal tells, as words. Assumes nothing.
-use Rattle.rules.specs.First.{toldOf}
+use Rattle.moves.specs.First.{toldOf}
 use borrow.Author.Needs.{needs}
 use Rattle.door3.proofs.inner.said.Statement.{statement}
 use Rattle.door3.proofs.inner.said.Tie as tie

@@ -7,10 +7,12 @@ use native.Mathlib.Omega.{arith}
 use borrow.Author.Needs.{needs}
 use borrow.Author.Tests.{le-ltb, not-true, not-false}
 use Rattle.sets.specs.Sets.{has}
-use Rattle.rules.specs.declared.inner.Row.{Row}
+use Rattle.moves.specs.declared.inner.Row.{Row}
 use Rattle.rules.specs.Graph.{Graph, graphOf}
-use Rattle.rules.specs.Move.{known, personHolds, stepHas}
-use Rattle.rules.specs.Laws.{Counted, clear-counts}
+use Rattle.rules.specs.Answers.{known}
+use Rattle.moves.specs.Move.{personHolds, stepHas}
+use Rattle.tables.specs.Laws.{Counted}
+use Rattle.rules.specs.Laws.{clear-counts}
 use Rattle.folding.specs.Fold.{rowAt, stepRecord}
 use Rattle.folding.specs.Laws.{and-none, record-unknown, record-serves}
 use Rattle.folding.proofs.inner.entry_record.Statement.{statement}

@@ -6,7 +6,7 @@ use native.Mathlib.Omega.{arith}
 use lib.ListN.{length}
 use borrow.Author.Needs.{needs}
 use borrow.Author.Tests.{not-true, not-false}
-use Rattle.rules.specs.declared.Entry.{Entry}
+use Rattle.moves.specs.declared.Entry.{Entry}
 use Rattle.journal.specs.declared.Walked.{Walked}
 use Rattle.journal.specs.Journal.{lengthFits}
 use Rattle.journal.specs.Laws.{fits-threes}

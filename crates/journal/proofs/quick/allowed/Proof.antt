@@ -9,9 +9,10 @@ use lib.Dec.{eqb}
 use borrow.Author.Needs.{needs}
 use borrow.Author.Tests.{not-true, not-false, eq-eqb, ne-eqb}
 use Rattle.sets.specs.Sets.{has, single, meet}
-use Rattle.rules.specs.declared.inner.Row.{Row}
-use Rattle.rules.specs.Graph.{Graph, row, graphOf, rolesHeld, rolesOf}
-use Rattle.rules.specs.Move.{isIncluded, waitsFor}
+use Rattle.moves.specs.declared.inner.Row.{Row}
+use Rattle.rules.specs.Graph.{Graph, graphOf, rolesHeld, rolesOf}
+use Rattle.tables.specs.Tables.{row}
+use Rattle.moves.specs.Move.{isIncluded, waitsFor}
 use Rattle.journal.specs.Allowed.{unknown-person-role, unknown-step, without-role, not-included, role-left}
 use Rattle.journal.specs.Singles.{single-asked}
 use Rattle.journal.proofs.quick.allowed.Statement.{statement}

@@ -1,7 +1,7 @@
 -- `quick::refused`: which refusal it is, is the move's to say. Assumes nothing.
 use mathlib.Core.Path.{sym, ap, _∙_}
 use borrow.Author.Needs.{needs}
-use Rattle.rules.specs.declared.Move.{Move}
+use Rattle.moves.specs.declared.Move.{Move}
 use Rattle.journal.specs.declared.Ran.{Ran}
 use Rattle.journal.specs.Run.{goOn}
 use Rattle.journal.proofs.quick.refused.Statement.{statement}

@@ -1,8 +1,8 @@
 -- `quick::taken`: the row of the entry, and the marking after it. Assumes nothing.
 use mathlib.Core.Path.{ap, _∙_}
 use borrow.Author.Needs.{needs}
-use Rattle.rules.specs.declared.inner.Row.{Row}
-use Rattle.rules.specs.Move.{after}
+use Rattle.moves.specs.declared.inner.Row.{Row}
+use Rattle.moves.specs.Move.{after}
 use Rattle.journal.proofs.quick.taken.Statement.{statement}
 use Rattle.journal.proofs.quick.taken.Tie as tie
 

@@ -8,11 +8,12 @@ use lib.ListN.{length, drop}
 use borrow.Author.Needs.{needs}
 use borrow.Author.Tests.{not-true, not-false}
 use Rattle.sets.specs.Sets.{full}
-use Rattle.rules.specs.declared.Entry.{Entry}
-use Rattle.rules.specs.declared.Move.{Move}
+use Rattle.moves.specs.declared.Entry.{Entry}
+use Rattle.moves.specs.declared.Move.{Move}
 use Rattle.rules.specs.Graph.{Graph, graphOf}
-use Rattle.rules.specs.Move.{entryMove}
-use Rattle.rules.specs.Laws.{Counted, clear-counts}
+use Rattle.rules.specs.Answers.{entryMove}
+use Rattle.tables.specs.Laws.{Counted}
+use Rattle.rules.specs.Laws.{clear-counts}
 use Rattle.journal.specs.Journal.{entries, entryAt}
 use Rattle.journal.specs.Allowed.{Named, isAllowed, allowed-named, allowed-moved}
 use Rattle.journal.specs.Singles.{singles-all}

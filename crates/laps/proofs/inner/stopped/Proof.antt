@@ -1,7 +1,7 @@
 -- `inner::stopped`: which refusal it is, is the move's to say. Assumes nothing.
 use mathlib.Core.Path.{sym, ap, _∙_}
 use borrow.Author.Needs.{needs}
-use Rattle.rules.specs.declared.Move.{Move}
+use Rattle.moves.specs.declared.Move.{Move}
 use Rattle.laps.specs.declared.inner.Leg.{Leg}
 use Rattle.laps.specs.Decision.{goOn}
 use Rattle.laps.proofs.inner.stopped.Statement.{statement}

@@ -3,7 +3,7 @@ use mathlib.Core.Path.{sym, ap, ap₂, _∙_}
 use mathlib.Core.Bool.{not, _&&_}
 use borrow.Author.Needs.{needs}
 use borrow.Author.Tests.{not-false}
-use Rattle.rules.specs.First.{first}
+use Rattle.moves.specs.First.{first}
 use Rattle.records.specs.Answers.{theJoin, recordedOf}
 use Rattle.records.specs.Answered.{counts-most}
 use Rattle.records.proofs.Record.join.Statement.{statement}

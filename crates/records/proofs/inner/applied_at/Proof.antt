@@ -3,7 +3,7 @@ use mathlib.Core.Path.{sym, ap, _∙_}
 use mathlib.Core.Bool.{not}
 use borrow.Author.Needs.{needs}
 use borrow.Author.Tests.{not-false}
-use Rattle.rules.specs.First.{first, numberOf}
+use Rattle.moves.specs.First.{first, numberOf}
 use Rattle.records.specs.Answers.{appliedOf, theApplication}
 use Rattle.records.specs.Answered.{counts-most, applies-on}
 use Rattle.records.proofs.inner.applied_at.Statement.{statement}

@@ -2,11 +2,13 @@
 use mathlib.Core.Path.{_≡_, sym, _∙_, ap}
 use mathlib.Core.Bool.{true, false}
 use borrow.Author.Tests.{lt-ltb, le-ltb}
-use Rattle.rules.specs.declared.inner.Row.{Row}
-use Rattle.rules.specs.First.{first}
+use Rattle.moves.specs.declared.inner.Row.{Row}
+use Rattle.moves.specs.First.{first}
 use Rattle.rules.specs.Graph.{Graph, graphOf}
-use Rattle.rules.specs.Move.{known, moveOf, rowLines, after}
-use Rattle.rules.specs.Laws.{entry-unknown, entry-known}
+use Rattle.rules.specs.Answers.{known}
+use Rattle.moves.specs.Move.{moveOf, rowLines, after}
+use Rattle.rules.specs.Laws.{clear-counts, entry-unknown, entry-known}
+use native.Mathlib.Omega.{arith}
 use borrow.Author.Needs.{needs}
 use Rattle.rules.proofs.inner.enter.Statement.{statement}
 use Rattle.rules.proofs.inner.enter.Tie as tie
@@ -51,10 +53,16 @@ returns-3 c =
     sym (entry-unknown g (a .m) (a .e) unknown)
 
 row-at-requires : tie.Need-row-at-requires
-row-at-requires c κs = search needs
+row-at-requires c κs =
+    let known = c .before .before .before .before .before .before in
+    let k = clear-counts (graphOf (known .args .g .now)) (known .pre) in
+    (omega (arith, k .people-most), omega (arith, k .steps-most))
 
 take-row-requires : tie.Need-take-row-requires
-take-row-requires c κs = search needs
+take-row-requires c κs =
+    let known = c .before .before .before .before .before .before .before in
+    let k = clear-counts (graphOf (known .args .g .now)) (known .pre) in
+    (omega (arith, k .steps-most), omega (arith, k .roles-most))
 
 returns-4 : tie.Need-returns-4
 returns-4 c =

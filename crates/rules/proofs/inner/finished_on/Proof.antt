@@ -4,7 +4,7 @@ use mathlib.Core.Bool.{Bool, true, false, cond}
 use borrow.Author.Needs.{needs}
 use borrow.Author.Tests.{not-true, not-false, ne-eqb, eq-eqb}
 use Rattle.rules.specs.declared.Ending.{Ending}
-use Rattle.rules.specs.Move.{markingFits}
+use Rattle.moves.specs.Move.{markingFits}
 use Rattle.rules.specs.Laws.{ending-outside, ending-inside}
 use Rattle.rules.proofs.inner.finished_on.Statement.{statement}
 use Rattle.rules.proofs.inner.finished_on.Tie as tie

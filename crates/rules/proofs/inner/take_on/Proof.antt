@@ -2,7 +2,7 @@
 use mathlib.Core.Path.{sym, _∙_}
 use borrow.Author.Tests.{not-true, not-false}
 use Rattle.rules.specs.Graph.{graphOf}
-use Rattle.rules.specs.Laws.{on-outside, on-inside}
+use Rattle.rules.specs.Laws.{clear-counts, on-outside, on-inside}
 use borrow.Author.Needs.{needs}
 use Rattle.rules.proofs.inner.take_on.Statement.{statement}
 use Rattle.rules.proofs.inner.take_on.Tie as tie
@@ -11,7 +11,9 @@ element-copy-out-fits : tie.Need-element-copy-out-fits
 element-copy-out-fits c = search needs
 
 fits-requires : tie.Need-fits-requires
-fits-requires c κs = search needs
+fits-requires c κs =
+    let a = c .before in
+    clear-counts (graphOf (a .args .g .now)) (a .pre) .steps-most
 
 returns : tie.Need-returns
 returns c =

@@ -1,5 +1,5 @@
 -- `inner::word`: row s of a table is word at + s. Assumes nothing.
-use mathlib.Core.Path.{sym, _∙_}
+use mathlib.Core.Path.{sym}
 use borrow.Author.Needs.{needs}
 use Rattle.rules.specs.Laws.{row-at}
 use Rattle.rules.proofs.inner.word.Statement.{statement}

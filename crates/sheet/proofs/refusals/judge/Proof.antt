@@ -8,9 +8,9 @@ use lib.ListN.{length}
 use lib.Dec.{eqb, lit<}
 use borrow.Author.Needs.{needs}
 use borrow.Author.Tests.{not-true, not-false}
-use Rattle.rules.specs.Graph.{countsFit}
-use Rattle.rules.specs.Move.{markingFits}
-use Rattle.rules.specs.Laws.{Counted}
+use Rattle.tables.specs.Tables.{countsFit}
+use Rattle.moves.specs.Move.{markingFits}
+use Rattle.tables.specs.Laws.{Counted}
 use Rattle.arrows.specs.Arrows.{arrowsIn, arrowsFit, tableOf}
 use Rattle.arrows.specs.Loops.{filled}
 use Rattle.layout.specs.Layout.{sizeAt, bodyAt}

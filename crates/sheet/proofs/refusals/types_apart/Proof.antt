@@ -5,7 +5,7 @@ use native.Mathlib.Omega.{arith}
 use borrow.Author.Needs.{needs}
 use Rattle.sets.specs.Sets.{union, meet, empty, gather}
 use Rattle.sets.specs.Laws.{gather-more, empty-gather}
-use Rattle.rules.specs.Graph.{row}
+use Rattle.tables.specs.Tables.{row}
 use Rattle.sheet.proofs.refusals.types_apart.Statement.{statement}
 use Rattle.sheet.proofs.refusals.types_apart.Tie as tie
 

@@ -4,7 +4,7 @@ use native.Mathlib.Omega.{arith}
 use borrow.Author.Needs.{needs}
 use borrow.Author.Tests.{not-true, not-false}
 use Rattle.rules.specs.Graph.{Graph, graphOf}
-use Rattle.rules.specs.Laws.{Counted, counts-bound}
+use Rattle.tables.specs.Laws.{Counted, counts-bound}
 use Rattle.sheet.specs.Write.{content-counts, content-beyond, content-graph}
 use Rattle.sheet.proofs.writing.content.Statement.{statement}
 use Rattle.sheet.proofs.writing.content.Tie as tie

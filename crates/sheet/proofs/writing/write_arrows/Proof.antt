@@ -5,7 +5,8 @@ use mathlib.Core.List.{_++_}
 use native.Mathlib.Omega.{arith}
 use lib.ListN.{length}
 use borrow.Author.Needs.{needs}
-use Rattle.rules.specs.Graph.{Graph, graphOf, row}
+use Rattle.rules.specs.Graph.{Graph, graphOf}
+use Rattle.tables.specs.Tables.{row}
 use Rattle.rules.specs.Laws.{rows-at}
 use Rattle.numbers.specs.Laws.{spliced-length, spliced-then}
 use Rattle.arrows.specs.Arrows.{spelt}

@@ -1,9 +1,10 @@
 -- `inner::sound`: the graph's refusal, then the marking's. Assumes nothing.
 use mathlib.Core.Path.{_≡_, sym, _∙_}
-use Rattle.rules.specs.declared.Verdict.{Verdict}
+use Rattle.moves.specs.declared.Verdict.{Verdict}
 use Rattle.rules.specs.Graph.{Graph, graphOf, graphLines, graphVerdict}
-use Rattle.rules.specs.Move.{markingLines}
-use Rattle.rules.specs.Laws.{clear-counts, first-refused}
+use Rattle.rules.specs.Answers.{markingLines}
+use Rattle.rules.specs.Laws.{clear-counts}
+use Rattle.moves.specs.Given.{first-refused}
 use Rattle.tracker.specs.Laws.{sound-outside, sound-inside}
 use borrow.Author.Tests.{not-true, not-false}
 use borrow.Author.Needs.{needs}

@@ -1,0 +1,68 @@
+-- The numbers on the door, and which of them is given: the first that holds, in the table's order.
+use Prim.Native.Nat.{ℕ}
+use mathlib.Core.List.{List, [], _∷_}
+use mathlib.Core.Bool.{Bool, cond}
+use Rattle.moves.specs.declared.Refusal.{Refusal}
+use Rattle.moves.specs.declared.Refusal.the-variants.{Layout, Counts, Bodies, Beyond, Arrows, Both, Length, Outside, NoRank, IllFormed, Unknown, NotHeld, NotOnStep, Excluded, Waits, NotApplied, EmptyLap, Room}
+use Rattle.moves.specs.declared.Told.{Told}
+use Rattle.moves.specs.declared.Verdict.{Verdict}
+
+-- the number of a refusal
+unfoldable pub numberOf : Refusal → ℕ
+numberOf Layout = 1
+numberOf Counts = 2
+numberOf Bodies = 3
+numberOf Beyond = 4
+numberOf Arrows = 5
+numberOf Both = 6
+numberOf Length = 7
+numberOf Outside = 8
+numberOf NoRank = 9
+numberOf IllFormed = 10
+numberOf Unknown = 11
+numberOf NotHeld = 12
+numberOf NotOnStep = 13
+numberOf Excluded = 14
+numberOf (Waits s) = 15
+numberOf NotApplied = 16
+numberOf EmptyLap = 17
+numberOf Room = 18
+
+-- the step that goes with a refusal: 15 gives the lowest waiting condition, every other one 0
+unfoldable pub stepOf : Refusal → ℕ
+stepOf Layout = 0
+stepOf Counts = 0
+stepOf Bodies = 0
+stepOf Beyond = 0
+stepOf Arrows = 0
+stepOf Both = 0
+stepOf Length = 0
+stepOf Outside = 0
+stepOf NoRank = 0
+stepOf IllFormed = 0
+stepOf Unknown = 0
+stepOf NotHeld = 0
+stepOf NotOnStep = 0
+stepOf Excluded = 0
+stepOf (Waits s) = s .0
+stepOf NotApplied = 0
+stepOf EmptyLap = 0
+stepOf Room = 0
+
+-- both together
+unfoldable pub toldOf : Refusal → Told
+toldOf r = record { number = numberOf r; step = stepOf r }
+
+-- a line of a call's table: a refusal, and whether it holds
+abbrev pub Line : Type 0
+Line = Refusal × Bool
+
+-- the first line that holds
+unfoldable pub first : List Line → Verdict
+first [] = Verdict.Clear
+first (l ∷ rest) = cond (l .1) (Verdict.Refused (l .0)) (first rest)
+
+-- 0 where nothing holds
+unfoldable pub number : Verdict → ℕ
+number Verdict.Clear = 0
+number (Verdict.Refused r) = numberOf r

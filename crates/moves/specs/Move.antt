@@ -1,0 +1,94 @@
+-- Taking a step on its row (Definitions 4 and 5): when an entry is allowed, and the marking after it. All tests read the marking before.
+use Prim.Native.Nat.{ℕ}
+use mathlib.Core.List.{List, [], _∷_}
+use mathlib.Core.Bool.{Bool, not, _&&_, cond}
+use lib.Dec.{leb}
+use Rattle.sets.specs.Sets.{has, single, union, meet, minus, empty, within, lowest}
+use Rattle.moves.specs.declared.inner.Row.{Row}
+use Rattle.moves.specs.declared.Marking.{Marking}
+use Rattle.moves.specs.declared.Entry.{Entry}
+use Rattle.moves.specs.declared.Refusal.the-variants.{Outside, NotHeld, NotOnStep, Excluded, Waits}
+use Rattle.moves.specs.declared.Verdict.{Verdict}
+use Rattle.moves.specs.declared.Move.{Move}
+use Rattle.moves.specs.First.{Line, numberOf, stepOf}
+
+-- Definition 5: p as r
+abbrev pub personHolds : Row → Entry → Bool
+personHolds w e = has (w .held) (e .role)
+
+-- Definition 5: a as r
+abbrev pub stepHas : Row → Entry → Bool
+stepHas w e = has (w .allows) (e .role)
+
+-- Definition 4 (iii): e ∈ In'
+abbrev pub isIncluded : Marking → Entry → Bool
+isIncluded m e = has (m .included) (e .step .0)
+
+-- the conditions of e that are in In' and not in Ex'. Definition 4 (iv) says that there are none
+abbrev pub waitsFor : ℕ → Marking → ℕ
+waitsFor conditions m = minus (meet conditions (m .included)) (m .done)
+
+-- Definition 4 (ii), (v), (vi): the marking after the step that is alone in `one`, whose row is w
+abbrev pub afterOne : Row → Marking → ℕ → Marking
+afterOne w m one =
+    record {
+      done = union (m .done) one;
+      due = union (minus (m .due) one) (w .responses);
+      included = minus (union (m .included) (w .includes)) (w .excludes);
+    }
+
+-- the marking after step s
+abbrev pub after : Row → Marking → ℕ → Marking
+after w m s = afterOne w m (single s)
+
+-- no step is both due and included
+abbrev pub isFinished : Marking → Bool
+isFinished m = empty (meet (m .due) (m .included))
+
+-- a marking of a graph with n steps names only its steps
+abbrev pub markingFits : ℕ → Marking → Bool
+markingFits n m = within n (m .done) && within n (m .due) && within n (m .included)
+
+-- k is one of 1, 2, .., most
+abbrev pub within1to : ℕ → ℕ → Bool
+within1to k most = leb 1 k && leb k most
+
+-- ---- the tables
+
+abbrev pub sizeLines : ℕ → Marking → List Line
+sizeLines n m = (Outside, not (markingFits n m)) ∷ []
+
+abbrev pub rowLines : Row → Marking → Entry → List Line
+rowLines w m e =
+    (NotHeld, not (personHolds w e))
+    ∷ (NotOnStep, not (stepHas w e))
+    ∷ (Excluded, not (isIncluded m e))
+    ∷ (Waits (record { 0 = lowest 64 (waitsFor (w .conditions) m) }), not (empty (waitsFor (w .conditions) m)))
+    ∷ []
+
+-- ---- the answer
+
+abbrev pub noMarking : Marking
+noMarking = record { done = 0; due = 0; included = 0 }
+
+-- nothing against the entry: the marking after. Else the refusal, from 11 on with the marking handed in, below with zeros
+unfoldable pub moveOf : Verdict → Marking → Marking → Move
+moveOf Verdict.Clear before next = Move.Moved next
+moveOf (Verdict.Refused r) before next = Move.Refused r (cond (leb 11 (numberOf r)) before noMarking)
+
+-- ---- document 01's number and values of each case
+
+-- 0 where the step is taken
+unfoldable pub numberOfMove : Move → ℕ
+numberOfMove (Move.Moved m) = 0
+numberOfMove (Move.Refused r m) = numberOf r
+
+-- the waiting step of 15
+unfoldable pub stepOfMove : Move → ℕ
+stepOfMove (Move.Moved m) = 0
+stepOfMove (Move.Refused r m) = stepOf r
+
+-- the marking after, or what is given back
+unfoldable pub markingOfMove : Move → Marking
+markingOfMove (Move.Moved m) = m
+markingOfMove (Move.Refused r m) = m

@@ -1,0 +1,88 @@
+// Taking a step on the numbers of its row, for loops that read one row an entry.
+ghost use mathlib.Core.Path.{_≡_};
+ghost use Prim.Native.Nat.{_+_, _<_, _≤_};
+ghost use Rattle.moves.specs.First.{first};
+ghost use Rattle.moves.specs.Move.{moveOf, rowLines, after, afterOne, waitsFor, markingFits};
+use crate::Entry;
+use crate::Marking;
+use crate::Move;
+use crate::Rank;
+use crate::Refusal;
+use crate::Step;
+
+// What an entry meets of the graph: the roles its person holds, the roles of its step, and the step's arrows.
+pub struct Row {
+    pub held: u64,
+    pub allows: u64,
+    pub conditions: u64,
+    pub responses: u64,
+    pub includes: u64,
+    pub excludes: u64,
+}
+
+// The conditions that are included and not done.
+pub fn waits(conditions: u64, m: Marking) -> u64
+    ensures { λ r. ⌜ r ≡ waitsFor conditions m ⌝ }
+{
+    let open = conditions & m.included;
+    open ^ (open & m.done)
+}
+
+// The marking after the step that is alone in `one`.
+fn after_one(w: Row, m: Marking, one: u64) -> Marking
+    ensures { λ r. ⌜ r ≡ afterOne w m one ⌝ }
+{
+    Marking {
+        done: m.done | one,
+        due: (m.due ^ (m.due & one)) | w.responses,
+        included: (m.included | w.includes) ^ ((m.included | w.includes) & w.excludes),
+    }
+}
+
+// The marking after step s.
+pub fn moved(w: Row, m: Marking, s: u8) -> Marking
+    requires { ⌜ s < 64 ⌝ }
+    ensures { λ r. ⌜ r ≡ after w m s ⌝ }
+{
+    after_one(w, m, sets::single(s))
+}
+
+// An entry on its row. Refusals 12 to 15. All tests read the marking before; the one after is only handed out.
+pub fn take_row(w: Row, m: Marking, e: Entry) -> Move
+    requires { ⌜ (e .step .0 < 64) × (e .role < 64) ⌝ }
+    ensures { λ o. ⌜ o ≡ moveOf (first (rowLines w m e)) m (after w m (e .step .0)) ⌝ }
+{
+    let s = e.step.0;
+    let r = e.role;
+    let next = moved(w, m, s);
+    if !sets::has(w.held, r) {
+        return Move::Refused(Refusal::NotHeld, m);
+    }
+    if !sets::has(w.allows, r) {
+        return Move::Refused(Refusal::NotOnStep, m);
+    }
+    if !sets::has(m.included, s) {
+        return Move::Refused(Refusal::Excluded, m);
+    }
+    let open = waits(w.conditions, m);
+    if open != 0 {
+        return Move::Refused(Refusal::Waits(Step(sets::lowest(open))), m);
+    }
+    Move::Moved(next)
+}
+
+// Does the marking name only the n steps?
+pub fn fits(n: u64, m: Marking) -> bool
+    requires { ⌜ n ≤ 64 ⌝ }
+    ensures { λ r. ⌜ r ≡ markingFits n m ⌝ }
+{
+    (m.done | m.due) | m.included <= sets::full(n)
+}
+
+// The rank of a step.
+pub fn rank_of(s: Step) -> Rank
+    requires { ⌜ s .0 < 64 ⌝ }
+    ensures { λ r. ⌜ r .0 ≡ s .0 + 1 ⌝ }
+{
+    Rank(s.0 + 1)
+}

@@ -1,0 +1,28 @@
+-- `tables::roles_full`: as `roles_fit`, with nothing beyond 64 steps. Assumes nothing.
+use native.Mathlib.Omega.{arith}
+use borrow.Author.Needs.{needs}
+use Rattle.tables.specs.Laws.{roles-keep, beyond-64}
+use Rattle.tables.proofs.roles_full.Statement.{statement}
+use Rattle.tables.proofs.roles_full.Tie as tie
+
+roles-named-requires : tie.Need-roles-named-requires
+roles-named-requires c κs = search needs
+
+roles-named-requires-2 : tie.Need-roles-named-requires-2
+roles-named-requires-2 c κs = search needs
+
+roles-beyond-requires : tie.Need-roles-beyond-requires
+roles-beyond-requires c κs = search needs
+
+full-requires : tie.Need-full-requires
+full-requires c κs = search needs
+
+returns : tie.Need-returns
+returns c =
+    let a = c .before .before .before .before .before .before .args in
+    let l = c .before .before .before .before .before .before .pre in
+    roles-keep 64 (a .people) (a .roles) (a .allows .now) (a .holds .now) _ _ _ 0 _ (c .full .ensures) (omega arith) (omega arith) (c .before .before .before .roles-named .ensures) (c .before .before .roles-named2 .ensures) (beyond-64 (a .allows .now) (l .2)) (c .before .roles-beyond .ensures)
+
+pub roles-full-spec : {M : Type 1} → statement M
+roles-full-spec =
+    tie.close (tie.spec roles-named-requires roles-named-requires-2 roles-beyond-requires full-requires returns)

@@ -1,0 +1,160 @@
+-- What is gathered of a graph's tables tells whether they keep to the counts. Assumes nothing.
+use Prim.Native.Nat.{ℕ, zero, suc, _^_, _≤_, _<_}
+use mathlib.Core.Path.{_≡_, refl, sym, ap, ap₂, _∙_, subst}
+use mathlib.Core.List.{List}
+use mathlib.Core.Bool.{Bool, true, false, _&&_, cond}
+use native.Mathlib.Nat.{lt-of-lt-of-le}
+use native.Mathlib.Omega.{arith}
+use native.Mathlib.Decide.{decLt}
+use lib.ListN.{length}
+use lib.Dec.{ltb, leb}
+use borrow.Author.Tests.{ltb-true, leb-true, lt-ltb, le-ltb, eq-eqb, eqb-true}
+use Rattle.sets.specs.Sets.{union, empty, within, full, gather, every}
+use Rattle.sets.specs.Truth.{and-exchange, and-left, and-right, and-intro, same-truth}
+use Rattle.sets.specs.Laws.{empty-gather, empty-union, within-gather, within-union, within-full, every-and, every-same, every-at, every-of}
+use Rattle.moves.specs.First.{first}
+use Rattle.tables.specs.Tables.{row, keeps, rolesFit, arrowsFit, kindsApart, countsFit}
+use Rattle.moves.specs.Move.{within1to}
+use Rattle.tables.specs.Gathered.{beyond, rowsTogether, rowsShared, Sized}
+
+
+-- below the count nothing is gathered of what lies beyond it
+pub gather-front : (k count : ℕ) (rows : ℕ → ℕ) → k ≤ count → gather k (beyond count rows) ≡ 0
+unfolding gather
+gather-front zero count rows h = refl
+gather-front (suc k) count rows h =
+    ap₂ union (gather-front k count rows (let z : k ≤ count = omega arith in z)) (ap (λ (b : Bool). cond b 0 (rows k)) (lt-ltb k count h))
+
+-- the rows of f below the count are within the limit, and the others, up to the room's end, empty
+kept : ℕ → ℕ → ℕ → (ℕ → ℕ) → Bool
+kept room count limit f = every room (λ i. within (cond (ltb i count) limit 0) (f i))
+
+-- what is gathered below and beyond the count tells whether the rows are kept
+gathered-kept : (room count limit : ℕ) (f : ℕ → ℕ) → count ≤ room
+    → (within limit (gather count f) && empty (gather room (beyond count f))) ≡ kept room count limit f
+unfolding kept
+gathered-kept room count limit f h =
+    ap₂ _&&_ (within-gather limit count f) (empty-gather room (beyond count f))
+    ∙ same-truth (every count low && every room high) (every room both)
+    (λ e. every-of room both (λ i l. join i l (decLt i count) (every-at count low (and-left (every count low) (every room high) e) i) (every-at room high (and-right (every count low) (every room high) e) i l)))
+    (λ e. and-intro
+    (every-of count low (λ i l. subst (λ (b : Bool). within (cond b limit 0) (f i) ≡ true) (lt-ltb i count l) (every-at room both e i (lt-of-lt-of-le l h))))
+    (every-of room high (λ i l. part i (decLt i count) (every-at room both e i l))))
+  where
+    low : ℕ → Bool
+    low i = within limit (f i)
+
+    high : ℕ → Bool
+    high i = empty (beyond count f i)
+
+    both : ℕ → Bool
+    both i = within (cond (ltb i count) limit 0) (f i)
+
+    none : (x : ℕ) → empty x ≡ true → within 0 x ≡ true
+    none x e = lt-ltb x 1 (let z : x ≡ 0 = eqb-true x 0 e in omega arith)
+
+    join : (i : ℕ) → i < room → Dec (i < count) → (i < count → within limit (f i) ≡ true) → empty (cond (ltb i count) 0 (f i)) ≡ true → within (cond (ltb i count) limit 0) (f i) ≡ true
+    join i l (yes k) w e = subst (λ (b : Bool). within (cond b limit 0) (f i) ≡ true) (sym (lt-ltb i count k)) (w k)
+    join i l (no k) w e =
+        let off : ltb i count ≡ false = le-ltb i count (let z : count ≤ i = omega arith in z) in
+        subst (λ (b : Bool). within (cond b limit 0) (f i) ≡ true) (sym off) (none (f i) (subst (λ (b : Bool). empty (cond b 0 (f i)) ≡ true) off e))
+
+    part : (i : ℕ) → Dec (i < count) → within (cond (ltb i count) limit 0) (f i) ≡ true → empty (cond (ltb i count) 0 (f i)) ≡ true
+    part i (yes k) e = subst (λ (b : Bool). empty (cond b 0 (f i)) ≡ true) (sym (lt-ltb i count k)) refl
+    part i (no k) e =
+        let off : ltb i count ≡ false = le-ltb i count (let z : count ≤ i = omega arith in z) in
+        let small : f i < 1 = ltb-true (f i) 1 (subst (λ (b : Bool). within (cond b limit 0) (f i) ≡ true) off e) in
+        subst (λ (b : Bool). empty (cond b 0 (f i)) ≡ true) (sym off) (eq-eqb (f i) 0 (omega arith))
+
+-- two tables are kept together exactly if each is
+kept-union : (room count limit : ℕ) (f g : ℕ → ℕ) → kept room count limit (λ i. union (f i) (g i)) ≡ (kept room count limit f && kept room count limit g)
+unfolding kept
+kept-union room count limit f g =
+    every-same room (λ i. within (bound i) (union (f i) (g i))) (λ i. within (bound i) (f i) && within (bound i) (g i)) (λ i. within-union (bound i) (f i) (g i))
+    ∙ every-and room (λ i. within (bound i) (f i)) (λ i. within (bound i) (g i))
+  where
+    bound : ℕ → ℕ
+    bound i = cond (ltb i count) limit 0
+
+-- one table, by its own length
+pub table-keeps : (count limit : ℕ) (table : List ℕ) (a x : ℕ) → count ≤ length table
+    → a ≡ gather count (row table) → x ≡ gather (length table) (beyond count (row table))
+    → (within limit a && empty x) ≡ keeps count limit table
+unfolding keeps kept
+table-keeps count limit table a x h pa px =
+    ap₂ _&&_ (ap (within limit) pa) (ap empty px) ∙ gathered-kept (length table) count limit (row table) h
+
+-- nothing lies beyond 64 rows
+pub beyond-64 : (t : List ℕ) → length t ≡ 64 → 0 ≡ gather (length t) (beyond 64 (row t))
+beyond-64 t e = sym (gather-front (length t) 64 (row t) (omega arith))
+
+-- the two tables of roles
+pub roles-keep : (steps people roles : ℕ) (allows holds : List ℕ) (named a b x y : ℕ) → named ≡ full roles
+    → steps ≤ length allows → people ≤ length holds
+    → a ≡ gather steps (row allows) → b ≡ gather people (row holds)
+    → x ≡ gather (length allows) (beyond steps (row allows)) → y ≡ gather (length holds) (beyond people (row holds))
+    → (leb (union a b) named && empty (union x y)) ≡ rolesFit steps people roles allows holds
+roles-keep steps people roles allows holds named a b x y n ha hb pa pb px py =
+    ap₂ _&&_ (ap (leb (union a b)) n ∙ within-full roles (union a b) ∙ within-union roles a b) (empty-union x y)
+    ∙ and-exchange (within roles a) (within roles b) (empty x) (empty y)
+    ∙ ap₂ _&&_ (table-keeps steps roles allows a x ha pa px) (table-keeps people roles holds b y hb pb py)
+
+-- a table of 64 rows
+keeps-64 : (k : ℕ) (t : List ℕ) → length t ≡ 64 → kept 64 k k (row t) ≡ keeps k k t
+unfolding keeps kept
+keeps-64 k t e = ap (λ (room : ℕ). every room (λ i. within (cond (ltb i k) k 0) (row t i))) (sym e)
+
+-- the four tables of arrows, in one pass
+pub arrows-keep : (k : ℕ) (r s t u : List ℕ) (inside all past : ℕ) → inside ≡ full k → k ≤ 64
+    → length r ≡ 64 → length s ≡ 64 → length t ≡ 64 → length u ≡ 64
+    → all ≡ gather k (rowsTogether r s t u) → past ≡ gather 64 (beyond k (rowsTogether r s t u))
+    → (leb all inside && empty past) ≡ arrowsFit k r s t u
+arrows-keep k r s t u inside all past n h lr ls lt lu pa pp =
+    ap₂ _&&_ (ap (leb all) n ∙ within-full k all ∙ ap (within k) pa) (ap empty pp)
+    ∙ gathered-kept 64 k k (rowsTogether r s t u) h
+    ∙ kept-union 64 k k (λ i. union (row r i) (row s i)) (λ i. union (row t i) (row u i))
+    ∙ ap₂ _&&_ (kept-union 64 k k (row r) (row s) ∙ ap₂ _&&_ (keeps-64 k r lr) (keeps-64 k s ls)) (kept-union 64 k k (row t) (row u) ∙ ap₂ _&&_ (keeps-64 k t lt) (keeps-64 k u lu))
+
+-- a table of 64 words names no step beyond 64, and has no row beyond
+words-keep : (t : List ℕ) → length t ≡ 64 → ((i : ℕ) → row t i < 2 ^ 64) → keeps 64 64 t ≡ true
+unfolding keeps
+words-keep t e w =
+    every-of (length t) (λ i. within (cond (ltb i 64) 64 0) (row t i))
+    (λ i h. subst (λ (b : Bool). within (cond b 64 0) (row t i) ≡ true) (sym (lt-ltb i 64 (omega arith))) (lt-ltb (row t i) (2 ^ 64) (w i)))
+
+pub words-fit : (r s t u : List ℕ) → Sized 64 r s t u
+    → ((i : ℕ) → row r i < 2 ^ 64) → ((i : ℕ) → row s i < 2 ^ 64) → ((i : ℕ) → row t i < 2 ^ 64) → ((i : ℕ) → row u i < 2 ^ 64)
+    → true ≡ arrowsFit 64 r s t u
+words-fit r s t u l wr ws wt wu =
+    sym (and-intro (and-intro (words-keep r (l .first) wr) (words-keep s (l .second) ws)) (and-intro (words-keep t (l .third) wt) (words-keep u (l .fourth) wu)))
+
+-- nothing is shared exactly if no pair is both include and exclude
+pub shared-apart : (k : ℕ) (t u : List ℕ) (both : ℕ) → both ≡ gather k (rowsShared t u) → empty both ≡ kindsApart k t u
+shared-apart k t u both e = ap empty e ∙ empty-gather k (rowsShared t u)
+
+-- counts that fit are within their bounds
+pub record Counted (steps people roles : ℕ) : Type 0 where
+  pub steps-some : 1 ≤ steps
+  pub steps-most : steps ≤ 64
+  pub people-some : 1 ≤ people
+  pub people-most : people ≤ 16
+  pub roles-some : 1 ≤ roles
+  pub roles-most : roles ≤ 16
+
+pub counts-bound : (steps people roles : ℕ) → countsFit steps people roles ≡ true → Counted steps people roles
+counts-bound steps people roles e =
+    let s = within1to steps 64 in
+    let p = within1to people 16 in
+    let r = within1to roles 16 in
+    let es : s ≡ true = and-left s p (and-left (s && p) r e) in
+    let ep : p ≡ true = and-right s p (and-left (s && p) r e) in
+    let er : r ≡ true = and-right (s && p) r e in
+    record {
+      steps-some = leb-true 1 steps (and-left (leb 1 steps) (leb steps 64) es);
+      steps-most = leb-true steps 64 (and-right (leb 1 steps) (leb steps 64) es);
+      people-some = leb-true 1 people (and-left (leb 1 people) (leb people 16) ep);
+      people-most = leb-true people 16 (and-right (leb 1 people) (leb people 16) ep);
+      roles-some = leb-true 1 roles (and-left (leb 1 roles) (leb roles 16) er);
+      roles-most = leb-true roles 16 (and-right (leb 1 roles) (leb roles 16) er);
+    }
+

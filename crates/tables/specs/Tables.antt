@@ -1,0 +1,33 @@
+-- What is asked of a graph's counts and tables: a table is a list of sets, a row for each number.
+use Prim.Native.Nat.{ℕ}
+use mathlib.Core.List.{List}
+use mathlib.Core.Bool.{Bool, _&&_, cond}
+use lib.ListN.{length, getD}
+use lib.Dec.{ltb}
+use Rattle.sets.specs.Sets.{meet, empty, within, every}
+use Rattle.moves.specs.Move.{within1to}
+
+-- row s of a table; nothing stands beyond its end
+abbrev pub row : List ℕ → ℕ → ℕ
+row table s = getD table s 0
+
+-- 2 is given unless there are 1 to 64 steps, 1 to 16 people and 1 to 16 roles
+abbrev pub countsFit : ℕ → ℕ → ℕ → Bool
+countsFit steps people roles = within1to steps 64 && within1to people 16 && within1to roles 16
+
+-- a table that keeps a row for each number below `count`: such a row names nothing at or beyond `limit`, and any other row nothing at all
+unfoldable pub keeps : ℕ → ℕ → List ℕ → Bool
+keeps count limit table = every (length table) (λ i. within (cond (ltb i count) limit 0) (row table i))
+
+-- the role sets of the steps and of the people
+abbrev pub rolesFit : ℕ → ℕ → ℕ → List ℕ → List ℕ → Bool
+rolesFit steps people roles allows holds = keeps steps roles allows && keeps people roles holds
+
+-- the arrows of the four kinds
+abbrev pub arrowsFit : ℕ → List ℕ → List ℕ → List ℕ → List ℕ → Bool
+arrowsFit steps conditions responses includes excludes =
+    (keeps steps steps conditions && keeps steps steps responses) && (keeps steps steps includes && keeps steps steps excludes)
+
+-- 6 is given unless no pair is both include and exclude
+abbrev pub kindsApart : ℕ → List ℕ → List ℕ → Bool
+kindsApart steps includes excludes = every steps (λ a. empty (meet (row includes a) (row excludes a)))
