@@ -1,7 +1,7 @@
 // The arrows of a sheet: three bytes each, kind, from, to, strictly ascending. They are read into one table of 256 rows, a row for each
 // kind and step, and written from four tables of 64 that are parts of a block.
 ghost use mathlib.Core.Path.{_≡_};
-ghost use Prim.Native.Nat.{ℕ, _+_, _*_, _%_, _<_, _≤_};
+ghost use Prim.Native.Nat.{_+_, _*_, _%_, _<_, _≤_};
 ghost use lib.ListN.{length};
 ghost use Rattle.tables.specs.Tables.{row};
 ghost use Rattle.numbers.specs.Numbers.{Spliced};

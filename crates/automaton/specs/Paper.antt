@@ -11,7 +11,7 @@ use Rattle.moves.specs.declared.Marking.{Marking}
 use Rattle.moves.specs.declared.Entry.{Entry}
 use Rattle.moves.specs.declared.Move.{Move}
 use Rattle.rules.specs.Answers.{theMove}
-use Rattle.rules.specs.Sound.{Inside}
+use Rattle.moves.specs.Inside.{Inside}
 use Rattle.tracker.specs.declared.Track.{Track}
 
 -- ---- the paper's signs

@@ -12,15 +12,14 @@ use borrow.Author.Tests.{lt-ltb, le-ltb, le-leb, eq-eqb, eqb-true, eqb-false}
 use Rattle.sets.specs.Sets.{has, single, union, meet, minus, empty, full, lowest}
 use Rattle.sets.specs.Truth.{and-left, and-intro, same-truth}
 use Rattle.sets.specs.Laws.{ext, has-minus, has-union, has-single, has-above, meet-lt, minus-lt, lowest-has, lowest-wider, has-those}
-use Rattle.rules.specs.Graph.{Graph}
+use Rattle.rules.specs.Graph.{Graph, graphVerdict}
 use Rattle.moves.specs.declared.Marking.{Marking}
 use Rattle.moves.specs.declared.Entry.{Entry}
 use Rattle.moves.specs.declared.Verdict.{Verdict}
 use Rattle.moves.specs.First.{first}
-use Rattle.rules.specs.Graph.{graphVerdict}
 use Rattle.moves.specs.Move.{isFinished}
 use Rattle.rules.specs.Laws.{clear-counts}
-use Rattle.rules.specs.Sound.{Inside, inside-fits}
+use Rattle.moves.specs.Inside.{Inside, inside-fits}
 use Rattle.rules.specs.Entries.{moved-after}
 use Rattle.tracker.specs.declared.Track.{Track}
 use Rattle.tracker.specs.declared.Tracked.{Tracked}

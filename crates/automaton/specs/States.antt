@@ -19,7 +19,8 @@ use Rattle.moves.specs.First.{first, number, numberOf, stepOf}
 use Rattle.moves.specs.Move.{isFinished}
 use Rattle.rules.specs.Answers.{known, entryLines}
 use Rattle.moves.specs.Given.{ascends, clear-head, clear-front, clear-back}
-use Rattle.rules.specs.Sound.{Inside, Sound, clear-sound, fits-inside, after-inside}
+use Rattle.moves.specs.Inside.{Inside, fits-inside}
+use Rattle.rules.specs.Sound.{Sound, clear-sound, after-inside}
 use Rattle.rules.specs.Entries.{moved-clear, moved-after}
 use Rattle.tracker.specs.declared.Track.{Track}
 use Rattle.tracker.specs.declared.Tracked.{Tracked}

@@ -1,13 +1,13 @@
 -- Tables made row by row. Assumes nothing.
 use Prim.Native.Nat.{ℕ, zero, suc, _+_, _≤_, _<_}
 use mathlib.Core.Path.{_≡_, refl, sym, ap, ap₂, _∙_, subst}
-use mathlib.Core.List.{List, [], _∷_, _++_, append-nil}
+use mathlib.Core.List.{List, [], _∷_, _++_}
 use native.Mathlib.Nat.{not-suc-le-zero}
 use native.Mathlib.Numerals.{add-one}
 use native.Mathlib.Omega.{arith}
 use native.Mathlib.Decide.{decLt}
-use lib.ListN.{length, set, length-append, List·getD-append, List·getD-eq-default, drop-of-length-le}
-use lib.Seq.{sets, sets-eq, getD-at, ext-getD}
+use lib.ListN.{length, set, length-append, List·getD-append, List·getD-eq-default}
+use lib.Seq.{sets, getD-at, ext-getD}
 use Rattle.tables.specs.Tables.{row}
 use Rattle.numbers.specs.Numbers.{Spliced}
 use Rattle.numbers.specs.Laws.{sets-append}

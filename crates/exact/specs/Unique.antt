@@ -13,7 +13,7 @@ use Rattle.sets.specs.Sets.{union, meet, minus, full}
 use Rattle.sets.specs.Laws.{union-lt, minus-lt, full-lt, subset-full, minus-zero}
 use Rattle.sets.specs.Digits.{at-digit, as-sets, by-digits}
 use Rattle.moves.specs.declared.Marking.{Marking}
-use Rattle.rules.specs.Sound.{Inside}
+use Rattle.moves.specs.Inside.{Inside}
 use Rattle.records.specs.declared.Record.{Record}
 use Rattle.records.specs.Records.{applies, gives, acts}
 use Rattle.records.specs.Laws.{lacks, applies-lacks, applies-none, applies-never, acts-some}

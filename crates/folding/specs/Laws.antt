@@ -14,7 +14,7 @@ use Rattle.sets.specs.Sets.{has, single, union, meet, minus, empty, subset}
 use Rattle.sets.specs.Truth.{and-left, and-right, same-truth}
 use Rattle.sets.specs.Laws.{has-single, subset-members, members-subset, single-lt, minus-lt}
 use Rattle.sets.specs.Digits.{at-digit, as-sets}
-use Rattle.rules.specs.Graph.{Graph}
+use Rattle.rules.specs.Graph.{Graph, graphVerdict}
 use Rattle.moves.specs.declared.inner.Row.{Row}
 use Rattle.moves.specs.declared.Marking.{Marking}
 use Rattle.moves.specs.declared.Entry.{Entry}
@@ -23,7 +23,6 @@ use Rattle.moves.specs.declared.Refusal.the-variants.{Unknown, NotHeld, NotOnSt
 use Rattle.moves.specs.declared.Verdict.{Verdict}
 use Rattle.moves.specs.declared.Move.{Move}
 use Rattle.moves.specs.First.{first}
-use Rattle.rules.specs.Graph.{graphVerdict}
 use Rattle.rules.specs.Answers.{known, entryMove, entryLines}
 use Rattle.moves.specs.Move.{personHolds, stepHas, isIncluded, waitsFor, after, moveOf}
 use Rattle.rules.specs.Sound.{Sound}

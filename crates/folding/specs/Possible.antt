@@ -5,15 +5,15 @@ use mathlib.Core.Bool.{Bool, true, _&&_}
 use borrow.Author.Tests.{lt-ltb, not-false}
 use Rattle.sets.specs.Truth.{and-left, and-right, and-intro, same-truth}
 use Rattle.sets.specs.Laws.{member-below}
-use Rattle.rules.specs.Graph.{Graph}
+use Rattle.rules.specs.Graph.{Graph, setsFit, graphVerdict, rolesHeld}
 use Rattle.moves.specs.declared.Entry.{Entry}
 use Rattle.moves.specs.declared.Verdict.{Verdict}
 use Rattle.tables.specs.Tables.{keeps, arrowsFit}
-use Rattle.rules.specs.Graph.{setsFit, graphVerdict, rolesHeld}
 use Rattle.rules.specs.Answers.{known}
 use Rattle.moves.specs.Move.{personHolds, stepHas}
 use Rattle.moves.specs.Given.{clear-head, clear-tail}
-use Rattle.rules.specs.Sound.{clear-sound, named-below}
+use Rattle.rules.specs.Sound.{clear-sound}
+use Rattle.tables.specs.Laws.{named-below}
 use Rattle.folding.specs.Fold.{rowAt, possible}
 
 -- an entry is possible exactly if its person holds the role and its step has it

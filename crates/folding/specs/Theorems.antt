@@ -8,20 +8,19 @@ use mathlib.Core.Option.{Option, none, some, bind}
 use native.Mathlib.Omega.{arith}
 use borrow.Author.Tests.{le-leb}
 use Rattle.sets.specs.Truth.{and-intro}
-use Rattle.rules.specs.Graph.{Graph}
+use Rattle.rules.specs.Graph.{Graph, graphVerdict}
 use Rattle.moves.specs.declared.Marking.{Marking}
 use Rattle.moves.specs.declared.Entry.{Entry}
 use Rattle.moves.specs.declared.Refusal.{Refusal}
 use Rattle.moves.specs.declared.Refusal.the-variants.{NotApplied}
 use Rattle.moves.specs.declared.Verdict.{Verdict}
 use Rattle.moves.specs.declared.Move.{Move}
-use Rattle.rules.specs.Graph.{graphVerdict}
-use Rattle.moves.specs.Move.{within1to}
+use Rattle.moves.specs.Move.{within1to, markingFits}
 use Rattle.rules.specs.Answers.{entryMove}
-use Rattle.moves.specs.Move.{markingFits}
 use Rattle.tables.specs.Laws.{Counted}
 use Rattle.rules.specs.Laws.{clear-counts}
-use Rattle.rules.specs.Sound.{Inside, clear-sound, fits-inside, inside-fits}
+use Rattle.moves.specs.Inside.{Inside, fits-inside, inside-fits}
+use Rattle.rules.specs.Sound.{clear-sound}
 use Rattle.journal.specs.declared.Ran.{Ran}
 use Rattle.journal.specs.Journal.{entries, lengthFits}
 use Rattle.journal.specs.Run.{goOn, runOn, theRun}

@@ -54,5 +54,5 @@ pub fn restore<'a, 'b>(g: &'a Job, r: Record, j: &'b [u8], m: Marking) -> Ran
     if !suits(r, m) {
         return Ran::Stopped(0, Refusal::NotApplied, m);
     }
-    journal::run_entries(g, given(r, m), j)
+    journal::quick::run_entries(g, given(r, m), j)
 }

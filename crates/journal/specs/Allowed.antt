@@ -13,7 +13,7 @@ use borrow.Author.Tests.{ltb-true, lt-ltb, le-ltb, not-true, not-false}
 use Rattle.sets.specs.Sets.{has, meet, empty, within}
 use Rattle.sets.specs.Truth.{and-left, and-right, and-intro}
 use Rattle.sets.specs.Laws.{has-meet, has-zero, has-above, every-at}
-use Rattle.rules.specs.Graph.{Graph}
+use Rattle.rules.specs.Graph.{Graph, setsFit, rolesOf, rolesHeld, graphVerdict}
 use Rattle.moves.specs.declared.Marking.{Marking}
 use Rattle.moves.specs.declared.Entry.{Entry}
 use Rattle.moves.specs.declared.Refusal.{Refusal}
@@ -21,7 +21,6 @@ use Rattle.moves.specs.declared.Verdict.{Verdict}
 use Rattle.moves.specs.declared.Move.{Move}
 use Rattle.moves.specs.First.{Line, first}
 use Rattle.tables.specs.Tables.{row, keeps, rolesFit}
-use Rattle.rules.specs.Graph.{setsFit, rolesOf, rolesHeld, graphVerdict}
 use Rattle.rules.specs.Answers.{rowOf, known, entryLines, entryMove}
 use Rattle.moves.specs.Move.{isIncluded, waitsFor, after, moveOf}
 use Rattle.tables.specs.Laws.{Counted}

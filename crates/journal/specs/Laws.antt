@@ -10,7 +10,7 @@ use lib.Dec.{eqb, leb}
 use lib.Seq.{drop-cons}
 use borrow.Author.Tests.{eqb-true, leb-true}
 use Rattle.sets.specs.Truth.{and-left, and-right}
-use Rattle.rules.specs.Graph.{Graph}
+use Rattle.rules.specs.Graph.{Graph, graphLines, graphVerdict}
 use Rattle.moves.specs.declared.Marking.{Marking}
 use Rattle.moves.specs.declared.Entry.{Entry}
 use Rattle.moves.specs.declared.Refusal.{Refusal}
@@ -18,7 +18,6 @@ use Rattle.moves.specs.declared.Refusal.the-variants.{Length, Outside}
 use Rattle.moves.specs.declared.Verdict.{Verdict}
 use Rattle.moves.specs.declared.Move.{Move}
 use Rattle.moves.specs.First.{first}
-use Rattle.rules.specs.Graph.{graphLines, graphVerdict}
 use Rattle.rules.specs.Answers.{entryMove, markingLines}
 use Rattle.moves.specs.Move.{markingFits, noMarking}
 use Rattle.moves.specs.Given.{first-clear, first-refused}

@@ -2,14 +2,13 @@
 use Prim.Native.Nat.{ℕ, _+_}
 use mathlib.Core.List.{List, [], _∷_, _++_}
 use mathlib.Core.Bool.{not}
-use Rattle.rules.specs.Graph.{Graph}
+use Rattle.rules.specs.Graph.{Graph, graphLines}
 use Rattle.moves.specs.declared.Marking.{Marking}
 use Rattle.moves.specs.declared.Entry.{Entry}
 use Rattle.moves.specs.declared.Refusal.the-variants.{Length}
 use Rattle.moves.specs.declared.Verdict.{Verdict}
 use Rattle.moves.specs.declared.Move.{Move}
 use Rattle.moves.specs.First.{Line, first, numberOf, stepOf}
-use Rattle.rules.specs.Graph.{graphLines}
 use Rattle.rules.specs.Answers.{entryMove, markingLines}
 use Rattle.moves.specs.Move.{noMarking}
 use Rattle.journal.specs.declared.Ran.{Ran}

@@ -10,18 +10,18 @@ use lib.ListN.{length, getD, take, length-append}
 use lib.Pow.{pow-pos}
 use borrow.Author.Tests.{not-false, eq-eqb, le-leb}
 use Rattle.sets.specs.Truth.{and-intro}
-use Rattle.rules.specs.Graph.{Graph}
+use Rattle.rules.specs.Graph.{Graph, graphLines, graphVerdict}
 use Rattle.moves.specs.declared.Marking.{Marking}
 use Rattle.moves.specs.declared.Entry.{Entry}
 use Rattle.moves.specs.declared.Refusal.{Refusal}
 use Rattle.moves.specs.declared.Verdict.{Verdict}
 use Rattle.moves.specs.declared.Move.{Move}
 use Rattle.moves.specs.First.{first, numberOf}
-use Rattle.rules.specs.Graph.{graphLines, graphVerdict}
 use Rattle.rules.specs.Answers.{entryMove, markingLines}
 use Rattle.moves.specs.Move.{markingFits, noMarking}
 use Rattle.moves.specs.Given.{numbersBelow, first-below, clear-head, clear-tail, clear-front, clear-back}
-use Rattle.rules.specs.Sound.{Sound, Inside, clear-sound, fits-inside, inside-fits}
+use Rattle.rules.specs.Sound.{Sound, clear-sound}
+use Rattle.moves.specs.Inside.{Inside, fits-inside, inside-fits}
 use Rattle.rules.specs.Entries.{entry-back, entry-inside}
 use Rattle.journal.specs.declared.Ran.{Ran}
 use Rattle.journal.specs.Journal.{entries, lengthFits}

@@ -1,6 +1,6 @@
 // Reading a lent journal.
 ghost use mathlib.Core.Path.{_≡_};
-ghost use Prim.Native.Nat.{ℕ, _+_, _*_, _≤_};
+ghost use Prim.Native.Nat.{_+_, _*_, _≤_};
 ghost use lib.ListN.{length};
 ghost use Rattle.journal.specs.Journal.{entryAt, lengthFits};
 ghost use Rattle.journal.specs.Walk.{stays, strideAt};

@@ -1,18 +1,10 @@
 // Journals: entries of three bytes, read, run and walked.
 ghost use mathlib.Core.Path.{_≡_};
-ghost use Prim.Native.Nat.{ℕ, _%_, _≤_};
-ghost use lib.ListN.{length};
-ghost use Rattle.moves.specs.declared.Verdict.{Verdict};
-ghost use Rattle.rules.specs.Graph.{graphOf, graphVerdict};
-ghost use Rattle.journal.specs.Journal.{entries};
-ghost use Rattle.journal.specs.Run.{runOn, theRun};
+ghost use Rattle.rules.specs.Graph.{graphOf};
+ghost use Rattle.journal.specs.Run.{theRun};
 ghost use Rattle.journal.specs.Walk.{strideAt};
-use crate::inner::entry_at;
 use crate::inner::length_fits;
-use crate::quick::SINGLES;
-use crate::quick::allowed;
-use crate::quick::refused;
-use crate::quick::taken;
+use crate::quick::run_entries;
 use moves::Entry;
 use rules::Job;
 use moves::Marking;
@@ -47,28 +39,6 @@ pub struct Walk<'a> {
 pub struct Stride {
     pub said: Walked,
     pub place: usize,
-}
-
-// The entries, on a graph and a journal with nothing against them. Refusals 11 to 15.
-pub fn run_entries<'a, 'b>(g: &'a Job, m: Marking, j: &'b [u8]) -> Ran
-    requires { ⌜ (graphVerdict (graphOf (now g)) ≡ Verdict.Clear) × (length (now j) % 3 ≡ 0) × (length (now j) ≤ 65535) ⌝ }
-    ensures { λ r. ⌜ r ≡ runOn (graphOf (now (g .entry))) m 0 (entries (now (j .entry))) ⌝ }
-{
-    let singles = SINGLES;
-    let count = j.len() / 3;
-    let mut at = m;
-    let mut k = 0;
-    while k < count {
-        let e = entry_at(j, k);
-        if !allowed(&singles, g, at, e) {
-            let index = k as u16;
-            return refused(g, at, e, index);
-        }
-        at = taken(g, at, e);
-        k += 1;
-    }
-    let number = count as u16;
-    Ran::Ended(at, number)
 }
 
 // Run a journal from a marking. Refusals 2, 4, 6, 7, 8, then 11 to 15 of the earliest refused entry.

@@ -1,16 +1,18 @@
-// What a run does with one entry, on a graph with nothing against it: an allowed entry meets five tests, and which refusal another one
-// meets is asked only then.
+// A run on a graph with nothing against it: an allowed entry meets five tests, and which refusal another one meets is asked only then.
 ghost use mathlib.Core.Path.{_≡_};
-ghost use Prim.Native.Nat.{ℕ, _<_, _≤_};
+ghost use Prim.Native.Nat.{_%_, _<_, _≤_};
+ghost use lib.ListN.{length};
 ghost use Rattle.moves.specs.declared.Verdict.{Verdict};
 ghost use Rattle.rules.specs.Graph.{graphOf, graphVerdict};
 ghost use Rattle.rules.specs.Answers.{rowOf, entryMove};
 ghost use Rattle.moves.specs.Move.{after};
 ghost use Rattle.journal.specs.declared.Ran.{Ran};
-ghost use Rattle.journal.specs.Run.{goOn};
+ghost use Rattle.journal.specs.Journal.{entries};
+ghost use Rattle.journal.specs.Run.{goOn, runOn};
 ghost use Rattle.journal.specs.Allowed.{isAllowed};
 ghost use Rattle.journal.specs.Singles.{Singles};
 use crate::Ran;
+use crate::inner::entry_at;
 use moves::Entry;
 use rules::Job;
 use moves::Marking;
@@ -126,11 +128,33 @@ pub fn taken(g: &Job, m: Marking, e: Entry) -> Marking
 
 // Where a run stops at an entry that is not.
 pub fn refused(g: &Job, m: Marking, e: Entry, index: u16) -> Ran
-    requires { ⌜ (graphOf (now g) .steps ≤ 64) × (graphOf (now g) .people ≤ 16) × (graphOf (now g) .roles ≤ 16) ⌝ }
+    requires { ⌜ graphVerdict (graphOf (now g)) ≡ Verdict.Clear ⌝ }
     ensures { λ r. ⌜ r ≡ goOn index m (entryMove (graphOf (now (g .entry))) m e) (λ next. Ran.Ended next index) ⌝ }
 {
     match enter(g, m, e) {
         Move::Moved(next) => Ran::Ended(next, index),
         Move::Refused(r, _) => Ran::Stopped(index, r, m),
     }
+}
+
+// The entries, on a graph and a journal with nothing against them. Refusals 11 to 15.
+pub fn run_entries<'a, 'b>(g: &'a Job, m: Marking, j: &'b [u8]) -> Ran
+    requires { ⌜ (graphVerdict (graphOf (now g)) ≡ Verdict.Clear) × (length (now j) % 3 ≡ 0) × (length (now j) ≤ 65535) ⌝ }
+    ensures { λ r. ⌜ r ≡ runOn (graphOf (now (g .entry))) m 0 (entries (now (j .entry))) ⌝ }
+{
+    let singles = SINGLES;
+    let count = j.len() / 3;
+    let mut at = m;
+    let mut k = 0;
+    while k < count {
+        let e = entry_at(j, k);
+        if !allowed(&singles, g, at, e) {
+            let index = k as u16;
+            return refused(g, at, e, index);
+        }
+        at = taken(g, at, e);
+        k += 1;
+    }
+    let number = count as u16;
+    Ran::Ended(at, number)
 }

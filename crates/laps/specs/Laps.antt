@@ -5,14 +5,13 @@ use mathlib.Core.List.{List, [], _∷_, _++_}
 use mathlib.Core.Bool.{not, _&&_, cond}
 use lib.ListN.{length, getD}
 use lib.Dec.{eqb, ltb}
-use Rattle.rules.specs.Graph.{Graph}
+use Rattle.rules.specs.Graph.{Graph, graphLines}
 use Rattle.moves.specs.declared.Marking.{Marking}
 use Rattle.moves.specs.declared.Entry.{Entry}
 use Rattle.moves.specs.declared.Refusal.{Refusal}
 use Rattle.moves.specs.declared.Refusal.the-variants.{Length, EmptyLap}
 use Rattle.moves.specs.declared.Verdict.{Verdict}
 use Rattle.moves.specs.First.{Line, first, numberOf, stepOf}
-use Rattle.rules.specs.Graph.{graphLines}
 use Rattle.rules.specs.Answers.{markingLines}
 use Rattle.journal.specs.Journal.{entryOf, entries, lengthFits}
 use Rattle.laps.specs.declared.Lapped.{Lapped}

@@ -11,16 +11,16 @@ use borrow.Author.Tests.{ltb-true, lt-ltb, eqb-false, not-false}
 use Rattle.sets.specs.Sets.{has, empty, full, lowest}
 use Rattle.sets.specs.Truth.{and-right}
 use Rattle.sets.specs.Laws.{has-full, has-above, lt-of-members, lowest-least, lowest-has, empty-members}
-use Rattle.rules.specs.Graph.{Graph}
+use Rattle.rules.specs.Graph.{Graph, graphLines}
 use Rattle.moves.specs.declared.Marking.{Marking}
 use Rattle.moves.specs.declared.Entry.{Entry}
 use Rattle.moves.specs.declared.Verdict.{Verdict}
 use Rattle.moves.specs.First.{first}
-use Rattle.rules.specs.Graph.{graphLines}
 use Rattle.rules.specs.Answers.{known, markingLines}
 use Rattle.moves.specs.Move.{markingFits}
 use Rattle.moves.specs.Given.{clear-head, clear-tail, clear-front, clear-back}
-use Rattle.rules.specs.Sound.{Sound, Inside, clear-sound, fits-inside, after-inside}
+use Rattle.rules.specs.Sound.{Sound, clear-sound, after-inside}
+use Rattle.moves.specs.Inside.{Inside, fits-inside}
 use Rattle.rules.specs.Entries.{known-step}
 use Rattle.journal.specs.Journal.{entries, lengthFits}
 use Rattle.journal.specs.Laws.{fits-threes, entries-length}

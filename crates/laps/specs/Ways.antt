@@ -9,7 +9,7 @@ use native.Mathlib.Omega.{arith}
 use lib.ListN.{length, drop, drop-of-length-le}
 use lib.Dec.{eqb}
 use Rattle.sets.specs.Sets.{full}
-use Rattle.rules.specs.Graph.{Graph}
+use Rattle.rules.specs.Graph.{Graph, graphLines, graphVerdict}
 use Rattle.moves.specs.declared.Marking.{Marking}
 use Rattle.moves.specs.declared.Entry.{Entry}
 use Rattle.moves.specs.declared.Refusal.{Refusal}
@@ -17,7 +17,6 @@ use Rattle.moves.specs.declared.Refusal.the-variants.{Length, Outside, EmptyLap
 use Rattle.moves.specs.declared.Verdict.{Verdict}
 use Rattle.moves.specs.declared.Move.{Move}
 use Rattle.moves.specs.First.{first}
-use Rattle.rules.specs.Graph.{graphLines, graphVerdict}
 use Rattle.rules.specs.Answers.{entryMove, markingLines}
 use Rattle.moves.specs.Move.{markingFits}
 use Rattle.moves.specs.Given.{first-clear, first-refused}

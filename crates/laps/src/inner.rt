@@ -1,6 +1,6 @@
 // The stem, then the lap twice: on a graph, journals and a marking with nothing against them.
 ghost use mathlib.Core.Path.{_≡_};
-ghost use Prim.Native.Nat.{ℕ, _%_, _<_, _≤_};
+ghost use Prim.Native.Nat.{_%_, _<_, _≤_};
 ghost use lib.ListN.{length};
 ghost use Rattle.moves.specs.declared.Verdict.{Verdict};
 ghost use Rattle.rules.specs.Graph.{graphOf, graphVerdict};
@@ -16,7 +16,7 @@ use journal::inner::entry_at;
 use journal::quick::SINGLES;
 use journal::quick::allowed;
 use journal::quick::taken;
-use journal::run_entries;
+use journal::quick::run_entries;
 use moves::Entry;
 use rules::Job;
 use moves::Marking;
@@ -62,7 +62,7 @@ fn judge(x: u64) -> Lapped
 
 // Where a leg stops at an entry that is not allowed. Refusals 11 to 15.
 fn stopped<'a>(g: &'a Job, m: Marking, e: Entry, index: u16) -> Leg
-    requires { ⌜ (graphOf (now g) .steps ≤ 64) × (graphOf (now g) .people ≤ 16) × (graphOf (now g) .roles ≤ 16) ⌝ }
+    requires { ⌜ graphVerdict (graphOf (now g)) ≡ Verdict.Clear ⌝ }
     ensures { λ r. ⌜ r ≡ goOn index (entryMove (graphOf (now (g .entry))) m e) (λ next. Leg.Ended next 0) ⌝ }
 {
     match enter(g, m, e) {

@@ -5,7 +5,7 @@ ghost use mathlib.Core.Bool.{_&&_};
 ghost use lib.ListN.{length, getD};
 ghost use lib.Dec.{eqb};
 ghost use Rattle.numbers.specs.Numbers.{Spliced};
-ghost use Rattle.layout.specs.Layout.{lineOf, contents, front, start, kindAt, offsetAt, sizeAt, bodyAt, follows, contentsFit};
+ghost use Rattle.layout.specs.Layout.{lineOf, front, start, kindAt, offsetAt, sizeAt, bodyAt, contentsFit};
 ghost use Rattle.layout.specs.Loops.{lines};
 
 // Where body i starts, by the contents.

@@ -1,3 +1,4 @@
 pub mod First
 pub mod Move
 pub mod Given
+pub mod Inside

@@ -12,9 +12,8 @@ use Rattle.moves.specs.declared.Marking.{Marking}
 use Rattle.moves.specs.declared.Refusal.the-variants.{Counts, Outside, IllFormed, NotApplied}
 use Rattle.moves.specs.declared.Verdict.{Verdict}
 use Rattle.moves.specs.First.{first, number, numberOf}
-use Rattle.moves.specs.Move.{within1to}
-use Rattle.moves.specs.Move.{markingFits}
-use Rattle.rules.specs.Sound.{Inside}
+use Rattle.moves.specs.Move.{within1to, markingFits}
+use Rattle.moves.specs.Inside.{Inside}
 use Rattle.records.specs.declared.Record.{Record}
 use Rattle.records.specs.declared.Recorded.{Recorded}
 use Rattle.records.specs.declared.Applied.{Applied}

@@ -7,8 +7,7 @@ use Rattle.moves.specs.declared.Marking.{Marking}
 use Rattle.moves.specs.declared.Refusal.the-variants.{Counts, Outside, IllFormed, NotApplied}
 use Rattle.moves.specs.declared.Verdict.{Verdict}
 use Rattle.moves.specs.First.{Line, first, numberOf}
-use Rattle.moves.specs.Move.{within1to}
-use Rattle.moves.specs.Move.{markingFits, noMarking}
+use Rattle.moves.specs.Move.{within1to, markingFits, noMarking}
 use Rattle.records.specs.declared.Record.{Record}
 use Rattle.records.specs.declared.Recorded.{Recorded}
 use Rattle.records.specs.declared.Applied.{Applied}

@@ -1,7 +1,7 @@
 // Records by their sets: every formula is over whole sets, with no branch.
 ghost use mathlib.Core.Path.{_≡_};
 ghost use mathlib.Core.Bool.{true};
-ghost use Prim.Native.Nat.{ℕ, _≤_};
+ghost use Prim.Native.Nat.{_≤_};
 ghost use Rattle.moves.specs.Move.{within1to};
 ghost use Rattle.records.specs.Answers.{appliedOn, theApplication};
 ghost use Rattle.records.specs.Records.{applies, gives, wellFormed, compose, sorted, tidy, join};

@@ -20,7 +20,8 @@ use Rattle.tables.specs.Tables.{row, countsFit, kindsApart}
 use Rattle.tables.specs.Gathered.{Sized}
 use Rattle.moves.specs.Move.{markingFits, noMarking}
 use Rattle.moves.specs.Given.{clear-head}
-use Rattle.rules.specs.Sound.{Inside, inside-fits, keeps-row, keeps-gone}
+use Rattle.moves.specs.Inside.{Inside, inside-fits}
+use Rattle.tables.specs.Laws.{keeps-row, keeps-gone}
 use Rattle.arrows.specs.Arrows.{Arrow, arrowsFit, arrowsIn, tableOf, arrowsOf, pick, fourTables}
 use Rattle.arrows.specs.Places.{arrowsIn-spelt, length-spelt}
 use Rattle.arrows.specs.Rows.{Kept}

@@ -16,8 +16,8 @@ use Rattle.sets.specs.Laws.{has-zero, member-below, lt-of-members, every-at, ev
 use Rattle.moves.specs.declared.Marking.{Marking}
 use Rattle.tables.specs.Tables.{row, keeps, countsFit}
 use Rattle.moves.specs.Move.{markingFits}
-use Rattle.tables.specs.Laws.{Counted, counts-bound}
-use Rattle.rules.specs.Sound.{Inside, fits-inside, inside-fits, keeps-row, keeps-gone}
+use Rattle.tables.specs.Laws.{Counted, counts-bound, keeps-row, keeps-gone}
+use Rattle.moves.specs.Inside.{Inside, fits-inside, inside-fits}
 use Rattle.layout.specs.Layout.{sizeAt}
 use Rattle.bodies.specs.Bodies.{setAt, roleSetsFit}
 use Rattle.sheet.specs.Sheet.{layoutFits}

@@ -16,7 +16,8 @@ use Rattle.moves.specs.First.{first, numberOf}
 use Rattle.moves.specs.Move.{after, moveOf, noMarking}
 use Rattle.rules.specs.Answers.{rowOf, known, entryLines, moveLines, entryMove, theMove}
 use Rattle.moves.specs.Given.{clear-head, ascends, first-above}
-use Rattle.rules.specs.Sound.{Sound, Inside, after-inside}
+use Rattle.rules.specs.Sound.{Sound, after-inside}
+use Rattle.moves.specs.Inside.{Inside}
 
 moved-of : (v : Verdict) (m a next : Marking) → moveOf v m a ≡ Move.Moved next → (v ≡ Verdict.Clear) × (a ≡ next)
 unfolding moveOf

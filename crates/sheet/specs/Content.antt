@@ -1,5 +1,5 @@
 -- What there is to a graph and a marking that nothing is against, and the sheet of them as the writer goes. Assumes nothing.
-use Prim.Native.Nat.{ℕ, _+_, _-_, _*_, _≤_, _<_}
+use Prim.Native.Nat.{ℕ, _+_, _*_, _≤_, _<_}
 use mathlib.Core.Path.{_≡_, sym, ap, ap₂, _∙_}
 use mathlib.Core.List.{List, [], _∷_, _++_, map, append-nil}
 use mathlib.Core.Bool.{Bool, true, _&&_, cond}
@@ -17,9 +17,9 @@ use Rattle.moves.specs.First.{first}
 use Rattle.rules.specs.Graph.{Graph, setsFit}
 use Rattle.tables.specs.Tables.{row, keeps, countsFit, kindsApart}
 use Rattle.moves.specs.Move.{markingFits}
-use Rattle.tables.specs.Laws.{Counted, counts-bound}
+use Rattle.tables.specs.Laws.{Counted, counts-bound, keeps-row, keeps-gone}
 use Rattle.moves.specs.Given.{first-clear, first-refused, clear-head, clear-tail}
-use Rattle.rules.specs.Sound.{Inside, fits-inside, keeps-row, keeps-gone}
+use Rattle.moves.specs.Inside.{Inside, fits-inside}
 use Rattle.arrows.specs.Arrows.{spelt}
 use Rattle.arrows.specs.Places.{spelt-append}
 use Rattle.arrows.specs.Rows.{kindArrows, turned, Kept, by-kind}

@@ -1,5 +1,5 @@
 -- The sheet of a graph and its first marking; what a sheet says; and when each number is given.
-use Prim.Native.Nat.{ℕ, _+_, _*_, _%_}
+use Prim.Native.Nat.{ℕ, _*_, _%_}
 use mathlib.Core.List.{List, [], _∷_, _++_}
 use mathlib.Core.Bool.{Bool, not, _&&_}
 use lib.ListN.{length, drop, replicate}

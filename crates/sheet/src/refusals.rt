@@ -1,16 +1,13 @@
 // When a sheet is refused: a test for each number, and the first that fails.
 ghost use mathlib.Core.Path.{_≡_};
-ghost use Prim.Native.Nat.{ℕ, _+_, _*_, _≤_};
-ghost use mathlib.Core.Bool.{true, _&&_};
+ghost use Prim.Native.Nat.{_+_, _*_, _≤_};
+ghost use mathlib.Core.Bool.{_&&_};
 ghost use lib.ListN.{length, replicate};
 ghost use lib.Dec.{eqb};
-ghost use Rattle.sets.specs.Sets.{meet, empty, every};
-ghost use Rattle.tables.specs.Tables.{row};
 ghost use Rattle.moves.specs.Move.{markingFits};
-ghost use Rattle.arrows.specs.Arrows.{tableOf};
 ghost use Rattle.layout.specs.Layout.{sizeAt, bodyAt};
 ghost use Rattle.bodies.specs.Bodies.{roleSetsFit};
-ghost use Rattle.sheet.specs.Sheet.{firstOf, arrowsOn, layoutFits, readVerdict};
+ghost use Rattle.sheet.specs.Sheet.{firstOf, layoutFits};
 ghost use Rattle.sheet.specs.Judge.{Judged, Placed, typesApart};
 use bodies::Counts;
 use moves::Refusal;

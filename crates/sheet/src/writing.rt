@@ -1,7 +1,7 @@
 // Writing a sheet: what may be against it, its size, and its parts one after the other.
 ghost use mathlib.Core.Path.{_≡_};
-ghost use Prim.Native.Nat.{ℕ, _+_, _*_, _≤_};
-ghost use mathlib.Core.List.{[], _∷_, _++_};
+ghost use Prim.Native.Nat.{_+_, _*_, _≤_};
+ghost use mathlib.Core.List.{_++_};
 ghost use lib.ListN.{length};
 ghost use Rattle.moves.specs.First.{first};
 ghost use Rattle.rules.specs.Graph.{graphOf};

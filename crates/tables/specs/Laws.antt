@@ -2,20 +2,21 @@
 use Prim.Native.Nat.{ℕ, zero, suc, _^_, _≤_, _<_}
 use mathlib.Core.Path.{_≡_, refl, sym, ap, ap₂, _∙_, subst}
 use mathlib.Core.List.{List}
-use mathlib.Core.Bool.{Bool, true, false, _&&_, cond}
-use native.Mathlib.Nat.{lt-of-lt-of-le}
+use mathlib.Core.Bool.{Bool, true, false, _&&_, cond, true≢false}
+use native.Mathlib.Nat.{lt-of-lt-of-le, lt-of-le-of-lt}
 use native.Mathlib.Omega.{arith}
 use native.Mathlib.Decide.{decLt}
-use lib.ListN.{length}
+use lib.ListN.{length, List·getD-eq-default}
 use lib.Dec.{ltb, leb}
 use borrow.Author.Tests.{ltb-true, leb-true, lt-ltb, le-ltb, eq-eqb, eqb-true}
-use Rattle.sets.specs.Sets.{union, empty, within, full, gather, every}
+use Rattle.sets.specs.Sets.{union, empty, within, full, gather, every, has}
 use Rattle.sets.specs.Truth.{and-exchange, and-left, and-right, and-intro, same-truth}
-use Rattle.sets.specs.Laws.{empty-gather, empty-union, within-gather, within-union, within-full, every-and, every-same, every-at, every-of}
-use Rattle.moves.specs.First.{first}
+use Rattle.sets.specs.Laws.{empty-gather, empty-union, within-gather, within-union, within-full, every-and, every-same, every-at, every-of, has-zero}
 use Rattle.tables.specs.Tables.{row, keeps, rolesFit, arrowsFit, kindsApart, countsFit}
 use Rattle.moves.specs.Move.{within1to}
 use Rattle.tables.specs.Gathered.{beyond, rowsTogether, rowsShared, Sized}
+use lib.Pow.{pow-pos, pow-mono}
+
 
 
 -- below the count nothing is gathered of what lies beyond it
@@ -158,3 +159,38 @@ counts-bound steps people roles e =
       roles-most = leb-true roles 16 (and-right (leb 1 roles) (leb roles 16) er);
     }
 
+-- a table that keeps to its counts has no row beyond the limit
+pub keeps-row : (count limit : ℕ) (table : List ℕ) → keeps count limit table ≡ true → (i : ℕ) → row table i < 2 ^ limit
+unfolding keeps
+keeps-row count limit table e i = go (decLt i (length table))
+  where
+    low : (b : Bool) → cond b limit 0 ≤ limit
+    low true = omega arith
+    low false = omega arith
+
+    go : Dec (i < length table) → row table i < 2 ^ limit
+    go (yes h) =
+        lt-of-lt-of-le
+        (ltb-true (row table i) (2 ^ cond (ltb i count) limit 0) (every-at (length table) (λ k. within (cond (ltb k count) limit 0) (row table k)) e i h))
+        (pow-mono (low (ltb i count)))
+    go (no h) = lt-of-le-of-lt (let z : row table i ≤ 0 = omega (arith, List·getD-eq-default table 0 {n = i} (let w : length table ≤ i = omega arith in w)) in z) (pow-pos limit)
+
+-- a table that keeps to its counts has nothing at or beyond them
+pub keeps-gone : (count limit : ℕ) (table : List ℕ) → keeps count limit table ≡ true → (i : ℕ) → count ≤ i → row table i ≡ 0
+unfolding keeps
+keeps-gone count limit table e i h = go (decLt i (length table))
+  where
+    go : Dec (i < length table) → row table i ≡ 0
+    go (yes l) =
+        let small : row table i < 1 =
+        ltb-true (row table i) 1 (subst (λ (b : Bool). within (cond b limit 0) (row table i) ≡ true) (le-ltb i count h) (every-at (length table) (λ k. within (cond (ltb k count) limit 0) (row table k)) e i l)) in
+        omega arith
+    go (no l) = List·getD-eq-default table 0 {n = i} (let z : length table ≤ i = omega arith in z)
+
+-- a row with a member is not beyond the counts
+pub named-below : (count limit : ℕ) (table : List ℕ) → keeps count limit table ≡ true → (i s : ℕ) → has (row table i) s ≡ true → i < count
+named-below count limit table e i s h = go (decLt i count)
+  where
+    go : Dec (i < count) → i < count
+    go (yes l) = l
+    go (no l) = absurd (true≢false (sym h ∙ ap (λ (x : ℕ). has x s) (keeps-gone count limit table e i (omega arith)) ∙ has-zero s))

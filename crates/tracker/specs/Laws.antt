@@ -11,7 +11,7 @@ use borrow.Author.Tests.{lt-ltb, le-ltb, ne-eqb, lt-leb, le-leb, leb-true, not-f
 use Rattle.sets.specs.Sets.{has, empty, full, lowest}
 use Rattle.sets.specs.Truth.{and-left, and-right, and-intro}
 use Rattle.sets.specs.Laws.{has-minus, has-full, empty-members, members-empty}
-use Rattle.rules.specs.Graph.{Graph}
+use Rattle.rules.specs.Graph.{Graph, graphLines, graphVerdict}
 use Rattle.moves.specs.declared.Marking.{Marking}
 use Rattle.moves.specs.declared.Rank.{Rank}
 use Rattle.moves.specs.declared.Entry.{Entry}
@@ -20,7 +20,6 @@ use Rattle.moves.specs.declared.Refusal.the-variants.{Outside, NoRank}
 use Rattle.moves.specs.declared.Verdict.{Verdict}
 use Rattle.moves.specs.declared.Move.{Move}
 use Rattle.moves.specs.First.{Line, first, numberOf}
-use Rattle.rules.specs.Graph.{graphLines, graphVerdict}
 use Rattle.moves.specs.Move.{markingFits, moveOf, after}
 use Rattle.rules.specs.Answers.{markingLines, entryLines, moveLines, theMove, entryMove, rowOf}
 use Rattle.moves.specs.Given.{first-clear, first-refused, first-below, numbersBelow, ascends, clear-head, clear-tail, first-above, clear-front, clear-back}

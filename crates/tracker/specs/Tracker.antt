@@ -4,17 +4,15 @@ use mathlib.Core.List.{List, [], _∷_, _++_}
 use mathlib.Core.Bool.{Bool, true, not, _&&_, _||_, cond}
 use lib.Dec.{eqb, leb}
 use Rattle.sets.specs.Sets.{has, meet, minus, empty, full, lowest}
-use Rattle.rules.specs.Graph.{Graph}
+use Rattle.rules.specs.Graph.{Graph, graphLines}
 use Rattle.moves.specs.declared.Marking.{Marking}
 use Rattle.moves.specs.declared.Rank.{Rank}
 use Rattle.moves.specs.declared.Entry.{Entry}
 use Rattle.moves.specs.declared.Verdict.{Verdict}
 use Rattle.moves.specs.declared.Refusal.the-variants.{NoRank}
 use Rattle.moves.specs.First.{Line, first, numberOf, stepOf}
-use Rattle.rules.specs.Graph.{graphLines}
-use Rattle.moves.specs.Move.{within1to}
+use Rattle.moves.specs.Move.{within1to, after, isFinished}
 use Rattle.rules.specs.Answers.{rowOf, markingLines, entryLines}
-use Rattle.moves.specs.Move.{after, isFinished}
 use Rattle.tracker.specs.declared.Track.{Track}
 use Rattle.tracker.specs.declared.Tracked.{Tracked}
 

@@ -1,8 +1,7 @@
 -- `keeping`: where the move is made the marking after it is kept, else the one handed in. Assumes nothing.
 use mathlib.Core.Path.{sym, _∙_}
 use borrow.Author.Needs.{needs}
-use Rattle.rules.specs.Graph.{Graph}
-use Rattle.rules.specs.Graph.{graphOf}
+use Rattle.rules.specs.Graph.{Graph, graphOf}
 use Rattle.kept.specs.Laws.{kept-moved, kept-refused}
 use Rattle.kept.proofs.keeping.Statement.{statement}
 use Rattle.kept.proofs.keeping.Tie as tie

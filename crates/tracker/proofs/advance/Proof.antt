@@ -10,7 +10,7 @@ use Rattle.moves.specs.First.{first}
 use Rattle.rules.specs.Graph.{Graph, graphOf}
 use Rattle.rules.specs.Laws.{clear-counts}
 use Rattle.tracker.specs.declared.Tracked.{Tracked}
-use Rattle.tracker.specs.Tracker.{theStep, startLines, isRank}
+use Rattle.tracker.specs.Tracker.{startLines, isRank}
 use Rattle.tracker.specs.Laws.{clear-graph, rank-most, entered, step-refused, step-unranked, step-entered}
 use borrow.Author.Needs.{needs}
 use Rattle.tracker.proofs.advance.Statement.{statement}
@@ -46,8 +46,7 @@ enter-requires : tie.Need-enter-requires
 enter-requires c κs =
     let a = c .before .before .before .before .before .before .args in
     let g : Graph = graphOf (a .g .now) in
-    let b = clear-counts g (clear-graph g (a .t .marking) (sym (c .before .before .before .before .before .sound .ensures) ∙ c .before .before .before .enum-told .given .1)) in
-    (b .steps-most, b .people-most, b .roles-most)
+    clear-graph g (a .t .marking) (sym (c .before .before .before .before .before .sound .ensures) ∙ c .before .before .before .enum-told .given .1)
 
 enum-known-o : tie.Need-enum-known-o
 enum-known-o c = search needs

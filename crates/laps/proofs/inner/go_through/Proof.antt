@@ -46,11 +46,7 @@ cast-index : tie.Need-cast-index Inv-loop μ-loop
 cast-index c = search needs
 
 stopped-requires : tie.Need-stopped-requires Inv-loop μ-loop
-stopped-requires c κs =
-    let a = c .before .before .before .before .before .before .before .args in
-    let g : Graph = graphOf (a .g .now) in
-    let b : Counted (g .steps) (g .people) (g .roles) = clear-counts g (c .before .before .before .before .before .before .before .pre .0) in
-    (b .steps-most, b .people-most, b .roles-most)
+stopped-requires c κs = c .before .before .before .before .before .before .before .pre .0
 
 returns : tie.Need-returns Inv-loop μ-loop
 unfolding full

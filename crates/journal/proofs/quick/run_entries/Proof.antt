@@ -1,4 +1,4 @@
--- `run_entries`: the run of the whole journal is at each turn of the loop the run from entry k on, in the marking at hand. Assumes nothing.
+-- `quick::run_entries`: the run of the whole journal is at each turn of the loop the run from entry k on, in the marking at hand. Assumes nothing.
 use Prim.Native.Nat.{_+_, _*_, _-_, _/_, _≤_}
 use mathlib.Core.Path.{_≡_, sym, _∙_, refl, ap}
 use mathlib.Core.Bool.{true, false}
@@ -19,8 +19,8 @@ use Rattle.journal.specs.Run.{runOn, goOn}
 use Rattle.journal.specs.Allowed.{Named, isAllowed, allowed-named, allowed-moved}
 use Rattle.journal.specs.Singles.{singles-all}
 use Rattle.journal.specs.Laws.{run-moved, run-stopped, run-ended}
-use Rattle.journal.proofs.run_entries.Statement.{statement}
-use Rattle.journal.proofs.run_entries.Tie as tie
+use Rattle.journal.proofs.quick.run_entries.Statement.{statement}
+use Rattle.journal.proofs.quick.run_entries.Tie as tie
 
 abbrev Inv-loop : tie.InvT-loop
 Inv-loop g j singles count at₀ k₀ at k =
@@ -45,11 +45,7 @@ cast-index : tie.Need-cast-index Inv-loop μ-loop
 cast-index c = search needs
 
 refused-requires : tie.Need-refused-requires Inv-loop μ-loop
-refused-requires c κs =
-    let a = c .before .before .before .before .before .before .before .args in
-    let g : Graph = graphOf (a .g .now) in
-    let b : Counted (g .steps) (g .people) (g .roles) = clear-counts g (c .before .before .before .before .before .before .before .pre .0) in
-    (b .steps-most, b .people-most, b .roles-most)
+refused-requires c κs = c .before .before .before .before .before .before .before .pre .0
 
 returns : tie.Need-returns Inv-loop μ-loop
 returns c =
