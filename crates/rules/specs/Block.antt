@@ -4,7 +4,8 @@ use mathlib.Core.Path.{_≡_, refl, sym, ap, _∙_}
 use mathlib.Core.List.{List, [], _∷_, _++_, append-nil}
 use lib.ListN.{length, drop}
 use lib.Seq.{take-at, drop-at, drop-drop}
-use Rattle.rules.specs.Graph.{Graph, tableAt, graphOf}
+use Rattle.rules.specs.Graph.{Graph, graphOf}
+use Rattle.tables.specs.Tables.{tableAt}
 
 -- each table has the rows that there is room for
 pub record Tabled (g : Graph) : Type 0 where

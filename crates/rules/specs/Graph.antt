@@ -2,11 +2,10 @@
 use Prim.Native.Nat.{ℕ}
 use mathlib.Core.List.{List, [], _∷_}
 use mathlib.Core.Bool.{Bool, not, _&&_}
-use lib.ListN.{take, drop}
 use Rattle.moves.specs.declared.Refusal.the-variants.{Counts, Beyond, Both}
 use Rattle.moves.specs.declared.Verdict.{Verdict}
 use Rattle.moves.specs.First.{Line, first}
-use Rattle.tables.specs.Tables.{row, countsFit, rolesFit, arrowsFit, kindsApart}
+use Rattle.tables.specs.Tables.{row, countsFit, rolesFit, arrowsFit, kindsApart, tableAt}
 
 -- a job: three counts, and tables of sets. Row b of `conditions` is what b waits for; row a of the next three is what a points at
 pub record Graph : Type 0 where
@@ -21,10 +20,6 @@ pub record Graph : Type 0 where
   pub holds : List ℕ
 
 -- ---- a job as it is lent: one block of 339 words. No other place knows where a table stands
-
--- the table of `count` rows from word `at` on
-abbrev pub tableAt : ℕ → ℕ → List ℕ → List ℕ
-tableAt at count block = take count (drop at block)
 
 abbrev pub graphOf : List ℕ → Graph
 graphOf block =

@@ -1,14 +1,12 @@
 -- The laws of the rules: a table of the block, and the answers by what is found of graph, marking and entry. Assumes nothing.
-use Prim.Native.Nat.{ℕ, _+_, _-_, _≤_, _<_}
+use Prim.Native.Nat.{ℕ, _<_}
 use mathlib.Core.Path.{_≡_, refl, ap, _∙_}
 use mathlib.Core.List.{List, [], _++_}
 use mathlib.Core.Bool.{Bool, true, false, not, cond}
 use native.Mathlib.Omega.{arith}
-use lib.ListN.{length, drop, length-drop}
-use lib.Seq.{getD-take, getD-drop, length-take-le}
 use lib.Dec.{leb}
 use borrow.Author.Tests.{lt-leb, not-false}
-use Rattle.rules.specs.Graph.{Graph, tableAt, graphLines, graphVerdict}
+use Rattle.rules.specs.Graph.{Graph, graphLines, graphVerdict}
 use Rattle.moves.specs.declared.Marking.{Marking}
 use Rattle.moves.specs.declared.Entry.{Entry}
 use Rattle.moves.specs.declared.Refusal.{Refusal}
@@ -17,21 +15,11 @@ use Rattle.moves.specs.declared.Move.{Move}
 use Rattle.rules.specs.declared.Ending.{Ending}
 use Rattle.moves.specs.declared.Refusal.the-variants.{Outside, Unknown}
 use Rattle.moves.specs.First.{Line, first, numberOf}
-use Rattle.tables.specs.Tables.{row, countsFit}
+use Rattle.tables.specs.Tables.{countsFit}
 use Rattle.moves.specs.Move.{moveOf, isFinished, markingFits, sizeLines, rowLines, after, noMarking}
 use Rattle.rules.specs.Answers.{entryMove, moveOn, theMove, theEnding, endingOn, endingOf, known, entryLines, markingLines, rowOf}
 use Rattle.moves.specs.Given.{first-clear, first-refused, clear-head, numbersBelow, first-below}
 use Rattle.tables.specs.Laws.{Counted, counts-bound}
-
--- ---- a graph's tables
-
--- row s of the table from word `at` on is word at + s
-pub row-at : (at count : ℕ) (block : List ℕ) (s : ℕ) → s < count → row (tableAt at count block) s ≡ row block (at + s)
-row-at at count block s h = getD-take count (drop at block) s 0 h ∙ getD-drop at block s 0
-
--- a table within the block has its count of rows
-pub rows-at : (at count : ℕ) (block : List ℕ) → at + count ≤ length block → length (tableAt at count block) ≡ count
-rows-at at count block h = length-take-le count (drop at block) (let l : length (drop at block) ≡ length block - at = length-drop at block in omega arith)
 
 -- a graph with nothing against it has counts that fit
 pub clear-counts : (g : Graph) → graphVerdict g ≡ Verdict.Clear → Counted (g .steps) (g .people) (g .roles)

@@ -2,8 +2,8 @@
 ghost use mathlib.Core.Path.{_≡_};
 ghost use Prim.Native.Nat.{_+_, _<_, _≤_};
 ghost use Rattle.moves.specs.declared.Verdict.{Verdict};
-ghost use Rattle.tables.specs.Tables.{row};
-ghost use Rattle.rules.specs.Graph.{tableAt, graphOf, graphVerdict};
+ghost use Rattle.tables.specs.Tables.{row, tableAt};
+ghost use Rattle.rules.specs.Graph.{graphOf, graphVerdict};
 ghost use Rattle.rules.specs.Answers.{moveOn, endingOn, entryMove, rowOf};
 use crate::ALLOWS;
 use crate::CONDITIONS;

@@ -1,23 +1,35 @@
 -- What is gathered of a graph's tables tells whether they keep to the counts. Assumes nothing.
-use Prim.Native.Nat.{ℕ, zero, suc, _^_, _≤_, _<_}
+use Prim.Native.Nat.{ℕ, zero, suc, _+_, _-_, _^_, _≤_, _<_}
 use mathlib.Core.Path.{_≡_, refl, sym, ap, ap₂, _∙_, subst}
 use mathlib.Core.List.{List}
 use mathlib.Core.Bool.{Bool, true, false, _&&_, cond, true≢false}
 use native.Mathlib.Nat.{lt-of-lt-of-le, lt-of-le-of-lt}
 use native.Mathlib.Omega.{arith}
 use native.Mathlib.Decide.{decLt}
-use lib.ListN.{length, List·getD-eq-default}
+use lib.ListN.{length, drop, length-drop, List·getD-eq-default}
+use lib.Seq.{getD-take, getD-drop, length-take-le}
 use lib.Dec.{ltb, leb}
 use borrow.Author.Tests.{ltb-true, leb-true, lt-ltb, le-ltb, eq-eqb, eqb-true}
 use Rattle.sets.specs.Sets.{union, empty, within, full, gather, every, has}
 use Rattle.sets.specs.Truth.{and-exchange, and-left, and-right, and-intro, same-truth}
 use Rattle.sets.specs.Laws.{empty-gather, empty-union, within-gather, within-union, within-full, every-and, every-same, every-at, every-of, has-zero}
-use Rattle.tables.specs.Tables.{row, keeps, rolesFit, arrowsFit, kindsApart, countsFit}
+use Rattle.tables.specs.Tables.{row, tableAt, keeps, rolesFit, arrowsFit, kindsApart, countsFit}
 use Rattle.moves.specs.Move.{within1to}
 use Rattle.tables.specs.Gathered.{beyond, rowsTogether, rowsShared, Sized}
 use lib.Pow.{pow-pos, pow-mono}
 
 
+-- ---- a part of a list of words
+
+-- row s of the table from row `at` on is word at + s
+pub row-at : (at count : ℕ) (words : List ℕ) (s : ℕ) → s < count → row (tableAt at count words) s ≡ row words (at + s)
+row-at at count words s h = getD-take count (drop at words) s 0 h ∙ getD-drop at words s 0
+
+-- a table within them has its count of rows
+pub rows-at : (at count : ℕ) (words : List ℕ) → at + count ≤ length words → length (tableAt at count words) ≡ count
+rows-at at count words h = length-take-le count (drop at words) (let l : length (drop at words) ≡ length words - at = length-drop at words in omega arith)
+
+-- ---- what is gathered
 
 -- below the count nothing is gathered of what lies beyond it
 pub gather-front : (k count : ℕ) (rows : ℕ → ℕ) → k ≤ count → gather k (beyond count rows) ≡ 0

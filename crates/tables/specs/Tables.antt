@@ -2,7 +2,7 @@
 use Prim.Native.Nat.{ℕ}
 use mathlib.Core.List.{List}
 use mathlib.Core.Bool.{Bool, _&&_, cond}
-use lib.ListN.{length, getD}
+use lib.ListN.{length, getD, take, drop}
 use lib.Dec.{ltb}
 use Rattle.sets.specs.Sets.{meet, empty, within, every}
 use Rattle.moves.specs.Move.{within1to}
@@ -10,6 +10,10 @@ use Rattle.moves.specs.Move.{within1to}
 -- row s of a table; nothing stands beyond its end
 abbrev pub row : List ℕ → ℕ → ℕ
 row table s = getD table s 0
+
+-- the table of `count` rows from row `at` on
+abbrev pub tableAt : ℕ → ℕ → List ℕ → List ℕ
+tableAt at count words = take count (drop at words)
 
 -- 2 is given unless there are 1 to 64 steps, 1 to 16 people and 1 to 16 roles
 abbrev pub countsFit : ℕ → ℕ → ℕ → Bool

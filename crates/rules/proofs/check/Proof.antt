@@ -7,8 +7,7 @@ use borrow.Author.Tests.{not-false}
 use Rattle.moves.specs.First.{first}
 use Rattle.rules.specs.Graph.{Graph, graphOf, setsFit}
 use Rattle.tables.specs.Tables.{row, kindsApart}
-use Rattle.tables.specs.Laws.{Counted, counts-bound}
-use Rattle.rules.specs.Laws.{rows-at}
+use Rattle.tables.specs.Laws.{Counted, counts-bound, rows-at}
 use borrow.Author.Needs.{needs}
 use Rattle.rules.proofs.check.Statement.{statement}
 use Rattle.rules.proofs.check.Tie as tie

@@ -8,8 +8,7 @@ use borrow.Author.Needs.{needs}
 use Rattle.moves.specs.declared.Verdict.{Verdict}
 use Rattle.moves.specs.First.{first}
 use Rattle.rules.specs.Graph.{Graph, graphOf}
-use Rattle.tables.specs.Laws.{Counted}
-use Rattle.rules.specs.Laws.{rows-at}
+use Rattle.tables.specs.Laws.{Counted, rows-at}
 use Rattle.layout.specs.Layout.{front}
 use Rattle.sheet.specs.Sheet.{sheetBytes, contentLines}
 use Rattle.sheet.specs.Write.{countWith, bodiesWith, sizesWritten}

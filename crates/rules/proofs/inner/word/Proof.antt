@@ -1,7 +1,7 @@
 -- `inner::word`: row s of a table is word at + s. Assumes nothing.
 use mathlib.Core.Path.{sym}
 use borrow.Author.Needs.{needs}
-use Rattle.rules.specs.Laws.{row-at}
+use Rattle.tables.specs.Laws.{row-at}
 use Rattle.rules.proofs.inner.word.Statement.{statement}
 use Rattle.rules.proofs.inner.word.Tie as tie
 

@@ -7,7 +7,7 @@ use lib.ListN.{length}
 use borrow.Author.Needs.{needs}
 use Rattle.rules.specs.Graph.{Graph, graphOf}
 use Rattle.tables.specs.Tables.{row}
-use Rattle.rules.specs.Laws.{rows-at}
+use Rattle.tables.specs.Laws.{rows-at}
 use Rattle.numbers.specs.Laws.{spliced-length, spliced-then}
 use Rattle.arrows.specs.Arrows.{spelt}
 use Rattle.arrows.specs.Rows.{kindArrows, countOf}

@@ -6,7 +6,7 @@ use native.Mathlib.Omega.{arith}
 use lib.ListN.{length}
 use borrow.Author.Needs.{needs}
 use Rattle.rules.specs.Graph.{Graph, graphOf}
-use Rattle.rules.specs.Laws.{rows-at}
+use Rattle.tables.specs.Laws.{rows-at}
 use Rattle.numbers.specs.Laws.{spliced-length, spliced-then}
 use Rattle.bodies.specs.Bodies.{countsBody, markingBody, rolesBody}
 use Rattle.bodies.specs.Laws.{length-counts, length-marking, length-roles}
