@@ -2,7 +2,7 @@
 ghost use mathlib.Core.Path.{_≡_};
 ghost use Rattle.rules.specs.Graph.{lentGraph};
 ghost use Rattle.records.specs.Answers.{theApplication};
-ghost use Rattle.records.specs.Bytes.{theReading};
+ghost use Rattle.spelling.specs.Bytes.{theReading};
 ghost use Rattle.folding.specs.Answers.{theFold, theRestoring};
 ghost use Rattle.words.specs.Words.{markingIn, ranWord, ranOut};
 ghost use Rattle.words.specs.Folded.{recordIn, recordOf, theJoining, recordedWord, recordedOut, wordsOut, appliedWord, appliedOut, writtenWord, writtenOut};
@@ -73,7 +73,7 @@ pub extern "C" fn ulz_record_read<'a, 'b>(n: u8, bytes: &'a [u8], sets: &'b mut 
     ensures { λ r. ⌜ r ≡ recordedWord (theReading n (now (bytes .entry))) ⌝ }
     ensures { λ r. ⌜ now (sets .exit) ≡ wordsOut (theReading n (now (bytes .entry))) (now (sets .entry)) ⌝ }
 {
-    let o = records::read(n, bytes);
+    let o = spelling::read(n, bytes);
     rw::worded(o, sets)
 }
 
@@ -84,7 +84,7 @@ pub extern "C" fn ulz_record_write<'a, 'b>(n: u8, sets: &'a [u64; 9], room: &'b 
     ensures { λ r. ⌜ now (room .exit) ≡ writtenOut n (recordOf (now (sets .entry))) (now (room .entry)) ⌝ }
 {
     let r = rw::record_of(sets);
-    let v = records::write(n, r, room);
+    let v = spelling::write(n, r, room);
     rw::written(v)
 }
 

@@ -10,8 +10,8 @@ use Rattle.records.specs.declared.Record.{Record}
 use Rattle.records.specs.Records.{applies, gives, acts, wellFormed, join, identity}
 use Rattle.records.specs.Laws.{acts-join, acts-identity, gives-again}
 use Rattle.records.specs.WellFormed.{WellFormed, well-formed, of-well-formed, join-well-formed, identity-well-formed}
-use Rattle.records.specs.Bytes.{recordBytes}
-use Rattle.records.specs.Spelling.{bytes-same, bounded-64}
+use Rattle.spelling.specs.Bytes.{recordBytes}
+use Rattle.spelling.specs.Spelling.{bytes-same, bounded-64}
 use Rattle.exact.specs.Unique.{Alike, unique}
 
 -- ---- equal exactly if alike

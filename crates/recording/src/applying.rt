@@ -37,7 +37,7 @@ fn say_applied(o: Applied, t: Target) {
 }
 
 fn apply_read(n: u8, bytes: &[u8], m: Marking, t: Target) {
-    let o = records::read(n, bytes);
+    let o = spelling::read(n, bytes);
     match o {
         Recorded::Made(r) => say_applied(r.apply(m, n), t),
         Recorded::Refused(r) => say_refused(r),
@@ -67,7 +67,7 @@ pub fn restore(s: &[u8], bytes: &[u8], j: &[u8], t: Target) {
         return;
     }
     let g = o.graph;
-    let read = records::read(g.steps, bytes);
+    let read = spelling::read(g.steps, bytes);
     match read {
         Recorded::Made(r) => say_ran(g, folding::restore(g, r, j, o.first), j, t),
         Recorded::Refused(r) => say_refused(r),

@@ -11,7 +11,7 @@ use moves::Verdict;
 // The record of n steps to its file, and then its lines.
 fn keep_record(n: u8, r: Record, t: Target) {
     let mut room = [0u8; 65];
-    let v = records::write(n, r, &mut room);
+    let v = spelling::write(n, r, &mut room);
     match v {
         Verdict::Refused(refusal) => say_refused(refusal),
         Verdict::Clear => {
@@ -42,8 +42,8 @@ pub fn fold(s: &[u8], j: &[u8], t: Target) {
 }
 
 pub fn join(n: u8, a: &[u8], b: &[u8], t: Target) {
-    let first = records::read(n, a);
-    let second = records::read(n, b);
+    let first = spelling::read(n, a);
+    let second = spelling::read(n, b);
     match first {
         Recorded::Refused(r) => say_refused(r),
         Recorded::Made(x) => match second {
@@ -55,7 +55,7 @@ pub fn join(n: u8, a: &[u8], b: &[u8], t: Target) {
 
 // A record does not hold its number of steps: it is read for 64.
 pub fn show(s: &[u8]) {
-    let o = records::read(64, s);
+    let o = spelling::read(64, s);
     match o {
         Recorded::Made(r) => say_record(r),
         Recorded::Refused(r) => say_refused(r),

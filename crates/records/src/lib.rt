@@ -1,13 +1,10 @@
 // Folded records: what a journal needs and does, without the journal.
 ghost use mathlib.Core.Path.{_≡_};
 ghost use Rattle.records.specs.Answers.{theJoin, theApplication};
-ghost use Rattle.records.specs.Bytes.{theReading, Writing};
 use moves::Marking;
 use moves::Refusal;
-use moves::Verdict;
 
 pub mod inner;
-pub mod layout;
 
 // What is needed of a marking, and what is then done to it. Never: no marking will do.
 pub struct Record {
@@ -77,41 +74,4 @@ impl Record {
         }
         inner::applied(self, m)
     }
-}
-
-// The record of n steps that the bytes spell. Refusals 2, 10.
-pub fn read(n: u64, s: &[u8]) -> Recorded
-    ensures { λ r. ⌜ r ≡ theReading n (now (s .entry)) ⌝ }
-{
-    if !inner::counts(n) {
-        return Recorded::Refused(Refusal::Counts);
-    }
-    if s.len() != 65 {
-        return Recorded::Refused(Refusal::IllFormed);
-    }
-    if 1 < s[0] {
-        return Recorded::Refused(Refusal::IllFormed);
-    }
-    let r = layout::record_at(s);
-    if !inner::well_formed(n, r) {
-        return Recorded::Refused(Refusal::IllFormed);
-    }
-    Recorded::Made(r)
-}
-
-// A record of n steps into the first 65 bytes of the room. Refusals 2, 10, 18.
-pub fn write(n: u64, r: Record, room: &mut [u8]) -> Verdict
-    ensures { λ v. ⌜ Writing n r (now (room .entry)) v (now (room .exit)) ⌝ }
-{
-    if !inner::counts(n) {
-        return Verdict::Refused(Refusal::Counts);
-    }
-    if !inner::well_formed(n, r) {
-        return Verdict::Refused(Refusal::IllFormed);
-    }
-    if room.len() < 65 {
-        return Verdict::Refused(Refusal::Room);
-    }
-    layout::spell(r, room);
-    Verdict::Clear
 }

@@ -10,7 +10,7 @@ use Rattle.records.specs.declared.Record.{Record}
 use Rattle.records.specs.declared.Recorded.{Recorded}
 use Rattle.records.specs.declared.Applied.{Applied}
 use Rattle.records.specs.Answers.{theJoin}
-use Rattle.records.specs.Bytes.{theReading, recordBytes, writeLines, roomOf}
+use Rattle.spelling.specs.Bytes.{theReading, recordBytes, writeLines, roomOf}
 use Rattle.words.specs.Words.{refusalWord, stored}
 
 -- what stands in for bytes or words that spell no record: it is not well-formed, for never is on beside a set

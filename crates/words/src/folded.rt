@@ -35,7 +35,7 @@ fn or_spoilt(o: Recorded) -> Record
 pub fn record_in(n: u8, bytes: &[u8]) -> Record
     ensures { λ r. ⌜ r ≡ recordIn n (now (bytes .entry)) ⌝ }
 {
-    let o = records::read(n, bytes);
+    let o = spelling::read(n, bytes);
     or_spoilt(o)
 }
 
@@ -63,7 +63,7 @@ pub fn record_of(sets: &[u64; 9]) -> Record
 pub fn applying(n: u8, bytes: &[u8], m: Marking) -> Applied
     ensures { λ r. ⌜ r ≡ theApplication n (recordIn n (now (bytes .entry))) m ⌝ }
 {
-    let o = records::read(n, bytes);
+    let o = spelling::read(n, bytes);
     match o {
         Recorded::Made(r) => records::inner::applied_at(n, r, m),
         Recorded::Refused(_) => SPOILT.apply(m, n),
@@ -73,10 +73,10 @@ pub fn applying(n: u8, bytes: &[u8], m: Marking) -> Applied
 pub fn joining<'a, 'b>(n: u8, a: &'a [u8], b: &'b [u8]) -> Recorded
     ensures { λ r. ⌜ r ≡ theJoining n (now (a .entry)) (now (b .entry)) ⌝ }
 {
-    let first = records::read(n, a);
+    let first = spelling::read(n, a);
     match first {
         Recorded::Made(x) => {
-            let second = records::read(n, b);
+            let second = spelling::read(n, b);
             match second {
                 Recorded::Made(y) => Recorded::Made(records::inner::joined(x, y)),
                 Recorded::Refused(r) => Recorded::Refused(r),
@@ -93,7 +93,7 @@ pub fn recorded(o: Recorded, room: &mut [u8]) -> u64
 {
     match o {
         Recorded::Made(r) => {
-            records::layout::spell(r, room);
+            spelling::inner::spell(r, room);
             0
         }
         Recorded::Refused(r) => crate::refusal(r) as u64,

@@ -3,7 +3,7 @@ use mathlib.Core.Path.{sym, ap, _∙_}
 use borrow.Author.Needs.{needs}
 use Rattle.records.specs.declared.Recorded.{Recorded}
 use Rattle.records.specs.Answers.{theApplication}
-use Rattle.records.specs.Spelling.{Reading, reading}
+use Rattle.spelling.specs.Spelling.{Reading, reading}
 use Rattle.words.specs.Folded.{recordOr}
 use Rattle.words.proofs.folded.applying.Statement.{statement}
 use Rattle.words.proofs.folded.applying.Tie as tie

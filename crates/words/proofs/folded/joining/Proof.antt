@@ -3,9 +3,9 @@
 use mathlib.Core.Path.{_≡_, sym, ap, _∙_}
 use borrow.Author.Needs.{needs}
 use Rattle.records.specs.declared.Recorded.{Recorded}
-use Rattle.records.specs.Bytes.{theReading}
+use Rattle.spelling.specs.Bytes.{theReading}
 use Rattle.records.specs.Answered.{joins}
-use Rattle.records.specs.Spelling.{Reading, reading}
+use Rattle.spelling.specs.Spelling.{Reading, reading}
 use Rattle.words.specs.Folded.{joinedTo, joinedFrom}
 use Rattle.words.proofs.folded.joining.Statement.{statement}
 use Rattle.words.proofs.folded.joining.Tie as tie

@@ -15,13 +15,13 @@ use Rattle.moves.specs.First.{first}
 use Rattle.moves.specs.Move.{within1to}
 use Rattle.numbers.specs.Numbers.{number, bytes, Bytes, Spliced}
 use Rattle.numbers.specs.Laws.{length-bytes, number-bytes, bytes-number, spliced-then, spliced-length}
 use Rattle.records.specs.declared.Record.{Record}
 use Rattle.records.specs.declared.Recorded.{Recorded}
 use Rattle.records.specs.Records.{setsOf, wellFormed}
 use Rattle.records.specs.WellFormed.{Bounded, well-formed}
-use Rattle.records.specs.Bytes.{flag, spelt, recordBytes, recordAt, readable, theReading}
+use Rattle.spelling.specs.Bytes.{flag, spelt, recordBytes, recordAt, readable, theReading}
 use Rattle.records.specs.Answers.{recordedOf}
 use Rattle.records.specs.Answered.{counts-most}
 
 -- ---- writing, set by set
 

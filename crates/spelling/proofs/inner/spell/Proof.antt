@@ -1,13 +1,13 @@
--- `layout::spell`: never, four sets and four sets, one after the other, are the record's bytes. Assumes nothing.
+-- `inner::spell`: never, four sets and four sets, one after the other, are the record's bytes. Assumes nothing.
 use Prim.Native.Nat.{ℕ, _+_, _≤_}
 use mathlib.Core.Path.{subst}
 use native.Mathlib.Omega.{arith}
 use lib.ListN.{length}
 use borrow.Author.Needs.{needs}
 use Rattle.numbers.specs.Numbers.{bytes, Spliced}
-use Rattle.records.specs.Spelling.{room-behind, room-behind-four, spelt-record}
-use Rattle.records.proofs.layout.spell.Statement.{statement}
-use Rattle.records.proofs.layout.spell.Tie as tie
+use Rattle.spelling.specs.Spelling.{room-behind, room-behind-four, spelt-record}
+use Rattle.spelling.proofs.inner.spell.Statement.{statement}
+use Rattle.spelling.proofs.inner.spell.Tie as tie
 
 one-if-requires : tie.Need-one-if-requires
 one-if-requires c κs = search needs

@@ -4,12 +4,12 @@ use mathlib.Core.Bool.{not}
 use borrow.Author.Needs.{needs}
 use borrow.Author.Tests.{not-false, ne-eqb, eq-eqb, lt-leb, le-leb}
 use Rattle.moves.specs.First.{first}
 use Rattle.records.specs.Records.{wellFormed}
 use Rattle.records.specs.Answers.{recordedOf}
-use Rattle.records.specs.Bytes.{theReading}
+use Rattle.spelling.specs.Bytes.{theReading}
 use Rattle.records.specs.Answered.{counts-most}
-use Rattle.records.proofs.read.Statement.{statement}
-use Rattle.records.proofs.read.Tie as tie
+use Rattle.spelling.proofs.read.Statement.{statement}
+use Rattle.spelling.proofs.read.Tie as tie
 
 counts-requires : tie.Need-counts-requires
 counts-requires c κs = search needs

@@ -1,13 +1,13 @@
-// A record in its 65 bytes.
+// A record read from its bytes, and spelt.
 ghost use mathlib.Core.Path.{_≡_};
 ghost use Prim.Native.Nat.{_+_, _≤_};
 ghost use mathlib.Core.List.{[], _∷_, _++_};
 ghost use lib.ListN.{length, drop};
 ghost use Rattle.numbers.specs.Numbers.{Spliced};
-ghost use Rattle.records.specs.Bytes.{flag, spelt, recordAt, recordBytes};
-use crate::Record;
+ghost use Rattle.spelling.specs.Bytes.{flag, spelt, recordAt, recordBytes};
 use numbers::eight;
 use numbers::put;
+use records::Record;
 
 // The record that 65 bytes spell.
 pub fn record_at(s: &[u8]) -> Record

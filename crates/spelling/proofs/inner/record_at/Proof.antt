@@ -1,8 +1,8 @@
--- `layout::record_at`: each set is read where the definition reads it. Assumes nothing.
+-- `inner::record_at`: each set is read where the definition reads it. Assumes nothing.
 use borrow.Author.Needs.{needs}
-use Rattle.records.specs.Bytes.{recordAt}
-use Rattle.records.proofs.layout.record_at.Statement.{statement}
-use Rattle.records.proofs.layout.record_at.Tie as tie
+use Rattle.spelling.specs.Bytes.{recordAt}
+use Rattle.spelling.proofs.inner.record_at.Statement.{statement}
+use Rattle.spelling.proofs.inner.record_at.Tie as tie
 
 shared-slice-read-t3 : tie.Need-shared-slice-read-t3
 shared-slice-read-t3 c = search needs

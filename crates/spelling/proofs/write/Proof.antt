@@ -4,10 +4,10 @@ use mathlib.Core.Bool.{not}
 use borrow.Author.Needs.{needs}
 use borrow.Author.Tests.{not-false, lt-ltb, le-ltb}
 use Rattle.moves.specs.First.{first}
-use Rattle.records.specs.Bytes.{roomOf}
+use Rattle.spelling.specs.Bytes.{roomOf}
 use Rattle.records.specs.Answered.{counts-most}
-use Rattle.records.proofs.write.Statement.{statement}
-use Rattle.records.proofs.write.Tie as tie
+use Rattle.spelling.proofs.write.Statement.{statement}
+use Rattle.spelling.proofs.write.Tie as tie
 
 counts-requires : tie.Need-counts-requires
 counts-requires c κs = search needs

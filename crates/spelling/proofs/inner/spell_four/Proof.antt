@@ -1,11 +1,11 @@
--- `layout::spell_four`: what is written one after the other is written as a whole. Assumes nothing.
+-- `inner::spell_four`: what is written one after the other is written as a whole. Assumes nothing.
 use Prim.Native.Nat.{_+_, _≤_}
 use native.Mathlib.Omega.{arith}
 use lib.ListN.{length}
 use borrow.Author.Needs.{needs}
-use Rattle.records.specs.Spelling.{spelt-none, spelt-then, room-behind}
-use Rattle.records.proofs.layout.spell_four.Statement.{statement}
-use Rattle.records.proofs.layout.spell_four.Tie as tie
+use Rattle.spelling.specs.Spelling.{spelt-none, spelt-then, room-behind}
+use Rattle.spelling.proofs.inner.spell_four.Statement.{statement}
+use Rattle.spelling.proofs.inner.spell_four.Tie as tie
 
 put-requires : tie.Need-put-requires
 put-requires c κs = search needs
