@@ -6,6 +6,7 @@ use mathlib.Core.Logic.{_↔_}
 use mathlib.Core.Bool.{Bool, true, false, cond}
 use mathlib.Core.Option.{Option, none, some, bind}
 use Rattle.moves.specs.declared.Marking.{Marking}
+use Rattle.moves.specs.Inside.{Inside}
 use Rattle.records.specs.declared.Record.{Record}
 use Rattle.records.specs.Records.{applies, gives, acts, wellFormed, join, identity}
 use Rattle.records.specs.Laws.{acts-join, acts-identity, gives-again}
@@ -87,4 +88,16 @@ pub bytes-exactly : (n : ℕ) (a b : Record) → n ≤ 64 → wellFormed n a ≡
 bytes-exactly n a b h p q = (
   λ e. equal-exactly n a b p q .0 (bytes-same a b (bounded-64 n a h (well-formed n a p .bounded)) (bounded-64 n b h (well-formed n b q .bounded)) e),
   λ l. ap recordBytes (equal-exactly n a b p q .1 l),
+)
+
+-- ---- the join is the one record that does first the one and then the other
+
+-- r does what a does, and then what b does, at every marking of n steps
+abbrev pub Then : ℕ → Record → Record → Record → Type 0
+Then n a b r = (m : Marking) → Inside n m → acts r m ≡ bind (acts a m) (acts b)
+
+pub join-exactly : (n : ℕ) (a b r : Record) → wellFormed n a ≡ true → wellFormed n b ≡ true → (r ≡ join a b) ↔ ((wellFormed n r ≡ true) × Then n a b r)
+join-exactly n a b r p q = (
+  λ e. (ap (wellFormed n) e ∙ join-keeps n a b p q, λ m h. ap (λ (x : Record). acts x m) e ∙ acts-join a b m),
+  λ t. unique n r (join a b) (well-formed n r (t .0)) (well-formed n (join a b) (join-keeps n a b p q)) (λ m h. t .1 m h ∙ sym (acts-join a b m)),
 )

@@ -56,13 +56,13 @@ own r x = record { done = r .needex; due = 0; included = union (r .needin) x }
 abbrev spare : ℕ → Record → ℕ
 spare n r = minus (full n) (r .needout)
 
-abbrev everything : ℕ → Marking
+abbrev pub everything : ℕ → Marking
 everything n = record { done = full n; due = full n; included = full n }
 
 own-inside : (n : ℕ) (r : Record) (x : ℕ) → Bounded n r → x < 2 ^ n → Inside n (own r x)
 own-inside n r x b h = record { done-in = b .needex-in; due-in = pow-pos n; included-in = union-lt n (r .needin) x (b .needin-in) h }
 
-everything-inside : (n : ℕ) → Inside n (everything n)
+pub everything-inside : (n : ℕ) → Inside n (everything n)
 everything-inside n = record { done-in = full-lt n; due-in = full-lt n; included-in = full-lt n }
 
 inside-full : (n x : ℕ) → x < 2 ^ n → minus x (full n) ≡ 0
@@ -110,7 +110,7 @@ applies-own n r x w off e =
     (r .needin ∷ r .needex ∷ r .needout ∷ x ∷ []) (λ i. simp at-digit) (λ i. simp at-digit) (λ i. simp at-digit) refl
     (none-of (w .needin-needout) e))
 
-applies-everything : (n : ℕ) (r : Record) → Bounded n r → r .never ≡ false → applies r (everything n) ≡ true
+pub applies-everything : (n : ℕ) (r : Record) → Bounded n r → r .never ≡ false → applies r (everything n) ≡ true
 applies-everything n r b off =
     applies-of r (everything n) off
     (by-digits (λ v. union (union (minus (getD v 0 0) (getD v 3 0)) (minus (getD v 1 0) (getD v 3 0))) (minus (getD v 2 0) (getD v 3 0)))

@@ -83,12 +83,18 @@ moved-by-lines true true true false w s m next = refl
 moved-by-lines true true true true false s m next = refl
 moved-by-lines true true true true true s m next = refl
 
+-- an entry moves a marking exactly if some marking could allow it, its step is included and it waits for nothing
+pub moved-if : (g : Graph) (e : Entry) (m : Marking) → movedTo (entryMove g m e)
+    ≡ cond (possible g e) (cond (isIncluded m e && empty (waitsFor (rowAt g e .conditions) m)) (some (after (rowAt g e) m (e .step .0))) none) none
+unfolding entryMove first
+moved-if g e m =
+    moved-by-lines (known g e) (personHolds (rowAt g e) e) (stepHas (rowAt g e) e) (isIncluded m e) (empty (waitsFor (rowAt g e .conditions) m)) _ m
+    (after (rowAt g e) m (e .step .0))
+
 -- an entry's record does what the entry does
 pub acts-entry : (g : Graph) (e : Entry) (m : Marking) → acts (entryRecord g e) m ≡ movedTo (entryMove g m e)
-unfolding entryRecord entryMove first acts
-acts-entry g e m =
-    go (possible g e)
-    ∙ sym (moved-by-lines (known g e) (personHolds (rowAt g e) e) (stepHas (rowAt g e) e) (isIncluded m e) (empty (waitsFor (rowAt g e .conditions) m)) _ m (after (rowAt g e) m (e .step .0)))
+unfolding entryRecord acts
+acts-entry g e m = go (possible g e) ∙ sym (moved-if g e m)
   where
     go : (p : Bool) → acts (cond p (stepRecord (rowAt g e) (e .step .0)) impossible) m
         ≡ cond p (cond (isIncluded m e && empty (waitsFor (rowAt g e .conditions) m)) (some (after (rowAt g e) m (e .step .0))) none) none

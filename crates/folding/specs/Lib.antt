@@ -4,4 +4,3 @@ pub mod Possible
 pub mod Answers
 pub mod Laws
 pub mod Answered
-pub mod Theorems

@@ -1,6 +1,7 @@
 -- Which number is given: the first that holds, and so the lowest. Assumes nothing.
 use Prim.Native.Nat.{ℕ, _≤_, _<_}
 use mathlib.Core.Path.{_≡_, refl, sym, ap, _∙_, subst}
+use mathlib.Core.Logic.{_↔_}
 use mathlib.Core.List.{List, [], _∷_, _++_}
 use mathlib.Core.Bool.{Bool, true, false, _&&_, _||_, cond, true≢false, false≢true}
 use native.Mathlib.Nat.{lt-trans}
@@ -148,3 +149,58 @@ first-lowest k (l ∷ a) h j e = go (l .1) refl (first-lowest (numberOf (l .0)) 
         (λ t. absurd (true≢false (sym (and-right (eqb (numberOf (l .0)) j) (l .1) t) ∙ p)))
         (λ t. t)))
 
+-- ---- each number exactly
+
+-- number k holds in the table, and no lower one
+pub record Lowest (k : ℕ) (lines : List Line) : Type 0 where
+  pub here : holds k lines ≡ true
+  pub least : (j : ℕ) → holds j lines ≡ true → k ≤ j
+
+-- what is given holds
+given-holds : (lines : List Line) (v : Verdict) → first lines ≡ v → 0 < number v → holds (number v) lines ≡ true
+unfolding number
+given-holds lines Verdict.Clear e h = absurd (let z : ⊥ = omega arith in z)
+given-holds lines (Verdict.Refused r) e h = first-holds lines r e
+
+-- a table whose numbers go up gives a number exactly if it is the lowest that holds
+pub given-exactly : (lines : List Line) → ascends 0 lines ≡ true → (k : ℕ) → 0 < k → (number (first lines) ≡ k) ↔ Lowest k lines
+given-exactly lines up k h = (there, back)
+  where
+    there : number (first lines) ≡ k → Lowest k lines
+    there e = record {
+      here = subst (λ (j : ℕ). holds j lines ≡ true) e (given-holds lines (first lines) refl (subst (λ (j : ℕ). 0 < j) (sym e) h));
+      least = λ j t. subst (λ (n : ℕ). n ≤ j) e (first-lowest 0 lines up j t .1);
+    }
+
+    back : Lowest k lines → number (first lines) ≡ k
+    back l =
+        let low = first-lowest 0 lines up k (l .here) in
+        let high : k ≤ number (first lines) = l .least (number (first lines)) (given-holds lines (first lines) refl (low .0)) in
+        let most : number (first lines) ≤ k = low .1 in
+        omega arith
+
+-- nothing is given exactly if no number holds
+pub nothing-exactly : (lines : List Line) → ascends 0 lines ≡ true → (number (first lines) ≡ 0) ↔ ((j : ℕ) → holds j lines ≡ false)
+unfolding number
+nothing-exactly lines up = (there, back (first lines) refl)
+  where
+    there : number (first lines) ≡ 0 → (j : ℕ) → holds j lines ≡ false
+    there e j = go (holds j lines) refl
+      where
+        go : (b : Bool) → holds j lines ≡ b → holds j lines ≡ false
+        go true t = absurd (let z : 0 < number (first lines) = first-lowest 0 lines up j t .0 in let w : ⊥ = omega arith in w)
+        go false t = t
+
+    back : (v : Verdict) → first lines ≡ v → ((j : ℕ) → holds j lines ≡ false) → number (first lines) ≡ 0
+    back Verdict.Clear e none = ap number e
+    back (Verdict.Refused r) e none = absurd (true≢false (sym (first-holds lines r e) ∙ none (numberOf r)))
+
+-- number k holds of two tables together exactly if it holds of one of them
+pub holds-append : (k : ℕ) (a b : List Line) → holds k (a ++ b) ≡ (holds k a || holds k b)
+unfolding holds
+holds-append k [] b = refl
+holds-append k (l ∷ a) b = ap (λ (x : Bool). (eqb (numberOf (l .0)) k && l .1) || x) (holds-append k a b) ∙ or-assoc (eqb (numberOf (l .0)) k && l .1) (holds k a) (holds k b)
+  where
+    or-assoc : (p q r : Bool) → (p || (q || r)) ≡ ((p || q) || r)
+    or-assoc true q r = refl
+    or-assoc false q r = refl

@@ -1,0 +1,1 @@
+// Theorems on folding journals. No code rests on them.
