@@ -2,20 +2,20 @@
 -- for four causes: an entry names what there is not, its person does not hold the role, its step does not have it, or an earlier entry shut its step out
 -- and none since has let it in. For at the marking with everything done and included nothing else can stand in the way. Assumes nothing.
 use Prim.Native.Nat.{ℕ, _<_}
-use mathlib.Core.Path.{_≡_, refl, sym, ap, ap₂, _∙_, subst}
+use mathlib.Core.Path.{_≡_, refl, sym, ap, ap₂, _∙_}
 use mathlib.Core.Logic.{_↔_}
 use mathlib.Core.List.{List, [], _∷_}
 use mathlib.Core.Bool.{Bool, true, false, not, _&&_, _||_, cond, true≢false, false≢true}
 use mathlib.Core.Option.{Option, none, some, bind}
 use borrow.Author.Tests.{lt-ltb}
-use Rattle.sets.specs.Sets.{has, single, union, meet, minus, empty, full}
-use Rattle.sets.specs.Truth.{and-left, and-right, or-cases, or-first, or-second, is-false}
+use Rattle.sets.specs.Sets.{has, single, union, meet, minus, empty}
+use Rattle.sets.specs.Truth.{and-left, or-first}
 use Rattle.sets.specs.Laws.{has-union, has-meet, has-minus, has-full, has-zero, member-below, members-empty}
 use Rattle.moves.specs.declared.Marking.{Marking}
 use Rattle.moves.specs.declared.Entry.{Entry}
 use Rattle.moves.specs.declared.Verdict.{Verdict}
 use Rattle.moves.specs.Move.{markingFits, after, isIncluded, waitsFor, personHolds, stepHas}
-use Rattle.moves.specs.Inside.{Inside, fits-inside, inside-fits}
+use Rattle.moves.specs.Inside.{inside-fits}
 use Rattle.rules.specs.Graph.{Graph, graphVerdict, conditionsOf, includesOf, excludesOf}
 use Rattle.rules.specs.Answers.{known, entryMove}
 use Rattle.rules.specs.Entries.{known-step}
@@ -25,8 +25,8 @@ use Rattle.journal.specs.Run.{theRun}
 use Rattle.records.specs.declared.Record.{Record}
 use Rattle.records.specs.declared.Recorded.{Recorded}
 use Rattle.records.specs.Records.{acts, applies, gives, wellFormed}
-use Rattle.records.specs.Laws.{applies-never, acts-some}
-use Rattle.records.specs.WellFormed.{WellFormed, well-formed}
+use Rattle.records.specs.Laws.{applies-never}
+use Rattle.records.specs.WellFormed.{well-formed}
 use Rattle.exact.specs.Unique.{unique, everything, everything-inside, applies-everything}
 use Rattle.folding.specs.Fold.{rowAt, possible, foldOf, movedTo, passes}
 use Rattle.folding.specs.Laws.{moved-if, acts-fold, fold-well-formed}

@@ -23,9 +23,10 @@ use Rattle.moves.specs.Inside.{Inside, fits-inside, inside-fits}
 use Rattle.rules.specs.Sound.{clear-sound}
 use Rattle.journal.specs.declared.Ran.{Ran}
 use Rattle.journal.specs.Journal.{entries, lengthFits}
-use Rattle.journal.specs.Run.{goOn, runOn, theRun}
+use Rattle.journal.specs.Run.{goOn, theRun}
+use Rattle.journal.specs.Inner.{runOn}
 use Rattle.journal.specs.Laws.{fits-threes, entries-append, run-graph, run-length, run-inside}
-use Rattle.journal.specs.Runs.{andThen, later, ended-passes, journals-append}
+use Rattle.runs.specs.Runs.{andThen, later, ended-passes, journals-append}
 use Rattle.records.specs.declared.Record.{Record}
 use Rattle.records.specs.declared.Recorded.{Recorded}
 use Rattle.records.specs.declared.Applied.{Applied}

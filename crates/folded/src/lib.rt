@@ -1,1 +1,1 @@
-// Theorems on folding journals. No code rests on them.
+// That folding is exact. There is nothing to call: what follows from the definitions of folds is stated in specs/.

@@ -14,7 +14,11 @@ use Rattle.rules.specs.Answers.{markingLines}
 use Rattle.moves.specs.Given.{first-clear, first-refused}
 use Rattle.journal.specs.declared.Ran.{Ran}
 use Rattle.journal.specs.Journal.{entries, lengthFits}
-use Rattle.journal.specs.Run.{runOn, runOf, lengthLines}
+use Rattle.journal.specs.Run.{runFrom, runOf, lengthLines}
+use Rattle.journal.specs.Inner.{runOn, run-from}
+use Rattle.moves.specs.Inside.{fits-inside}
+use Rattle.records.specs.Answered.{gives-inside}
+use Rattle.records.specs.WellFormed.{well-formed}
 use Rattle.records.specs.declared.Record.{Record}
 use Rattle.records.specs.declared.Recorded.{Recorded}
 use Rattle.records.specs.Records.{applies, gives, wellFormed}
@@ -43,7 +47,7 @@ fold-clear g j e f =
 module _ (g : Graph) (r : Record) (j : List ℕ) (m : Marking) where
   -- what is answered where nothing below 11 is against it
   abbrev tried : Ran
-  tried = cond (applies r m) (runOn g (gives r m) 0 (entries j)) (Ran.Stopped 0 NotApplied m)
+  tried = cond (applies r m) (runFrom g (gives r m) 0 (entries j)) (Ran.Stopped 0 NotApplied m)
 
   pub restore-graph : (q : Refusal) → graphVerdict g ≡ Verdict.Refused q → theRestoring g r j m ≡ Ran.Stopped 0 q noMarking
   unfolding theRestoring runOf
@@ -73,4 +77,8 @@ module _ (g : Graph) (r : Record) (j : List ℕ) (m : Marking) where
   pub restore-on : (a : Bool) → graphVerdict g ≡ Verdict.Clear → lengthFits j ≡ true → markingFits (g .steps) m ≡ true → wellFormed (g .steps) r ≡ true → applies r m ≡ a
       → theRestoring g r j m ≡ cond a (runOn g (gives r m) 0 (entries j)) (Ran.Stopped 0 NotApplied m)
   unfolding runOf first
-  restore-on a e p q s t = restore-lines true true true e p q s ∙ ap (λ (b : Bool). cond b (runOn g (gives r m) 0 (entries j)) (Ran.Stopped 0 NotApplied m)) t
+  restore-on a e p q s t =
+      restore-lines true true true e p q s
+      ∙ ap (λ (b : Bool). cond b (runFrom g (gives r m) 0 (entries j)) (Ran.Stopped 0 NotApplied m)) t
+      ∙ ap (λ (o : Ran). cond a o (Ran.Stopped 0 NotApplied m))
+      (run-from g (gives r m) 0 (entries j) e (gives-inside (g .steps) r m (well-formed (g .steps) r s .bounded) (fits-inside (g .steps) m q)))

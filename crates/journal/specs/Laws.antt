@@ -24,7 +24,11 @@ use Rattle.moves.specs.Given.{first-clear, first-refused}
 use Rattle.journal.specs.declared.Ran.{Ran}
 use Rattle.journal.specs.Journal.{entryOf, entries, entryAt, lengthFits}
 use Rattle.journal.specs.Allowed.{isAllowed, refused-moved}
-use Rattle.journal.specs.Run.{goOn, runOn, lengthLines, runOf, theRun}
+use Rattle.journal.specs.Run.{goOn, lengthLines, runOf, theRun, runFrom}
+use Rattle.journal.specs.Inner.{runOn, run-from}
+use Rattle.journal.specs.declared.Walked.{Walked}
+use Rattle.journal.specs.Walk.{stays, handOut, strideOf, strideAt}
+use Rattle.moves.specs.Inside.{fits-inside}
 
 -- ---- lengths that fit
 
@@ -142,26 +146,52 @@ run-ended g m j k h = ap (λ (t : List ℕ). runOn g m k (entries t)) (drop-of-l
 
 pub run-graph : (g : Graph) (m : Marking) (j : List ℕ) (r : Refusal) → graphVerdict g ≡ Verdict.Refused r → theRun g m j ≡ Ran.Stopped 0 r noMarking
 unfolding theRun runOf
-run-graph g m j r e = ap (λ (v : Verdict). runOf v (runOn g m 0 (entries j))) (first-refused (graphLines g) (lengthLines j ++ markingLines g m) r e)
+run-graph g m j r e = ap (λ (v : Verdict). runOf v (runFrom g m 0 (entries j))) (first-refused (graphLines g) (lengthLines j ++ markingLines g m) r e)
 
 pub run-length : (g : Graph) (m : Marking) (j : List ℕ) → graphVerdict g ≡ Verdict.Clear → lengthFits j ≡ false → theRun g m j ≡ Ran.Stopped 0 Length noMarking
 unfolding theRun runOf first
 run-length g m j e f =
-    ap (λ (v : Verdict). runOf v (runOn g m 0 (entries j))) (first-clear (graphLines g) (lengthLines j ++ markingLines g m) e
+    ap (λ (v : Verdict). runOf v (runFrom g m 0 (entries j))) (first-clear (graphLines g) (lengthLines j ++ markingLines g m) e
     ∙ ap (λ (b : Bool). cond (not b) (Verdict.Refused Length) (first (markingLines g m))) f)
 
 pub run-outside : (g : Graph) (m : Marking) (j : List ℕ) → graphVerdict g ≡ Verdict.Clear → lengthFits j ≡ true → markingFits (g .steps) m ≡ false
     → theRun g m j ≡ Ran.Stopped 0 Outside noMarking
 unfolding theRun runOf first
 run-outside g m j e f o =
-    ap (λ (v : Verdict). runOf v (runOn g m 0 (entries j))) (first-clear (graphLines g) (lengthLines j ++ markingLines g m) e
+    ap (λ (v : Verdict). runOf v (runFrom g m 0 (entries j))) (first-clear (graphLines g) (lengthLines j ++ markingLines g m) e
     ∙ ap (λ (b : Bool). cond (not b) (Verdict.Refused Length) (first (markingLines g m))) f
     ∙ ap (λ (b : Bool). cond (not b) (Verdict.Refused Outside) Verdict.Clear) o)
 
-pub run-inside : (g : Graph) (m : Marking) (j : List ℕ) → graphVerdict g ≡ Verdict.Clear → lengthFits j ≡ true → markingFits (g .steps) m ≡ true
-    → theRun g m j ≡ runOn g m 0 (entries j)
+pub run-clear : (g : Graph) (m : Marking) (j : List ℕ) → graphVerdict g ≡ Verdict.Clear → lengthFits j ≡ true → markingFits (g .steps) m ≡ true
+    → theRun g m j ≡ runFrom g m 0 (entries j)
 unfolding theRun runOf first
-run-inside g m j e f i =
-    ap (λ (v : Verdict). runOf v (runOn g m 0 (entries j))) (first-clear (graphLines g) (lengthLines j ++ markingLines g m) e
+run-clear g m j e f i =
+    ap (λ (v : Verdict). runOf v (runFrom g m 0 (entries j))) (first-clear (graphLines g) (lengthLines j ++ markingLines g m) e
     ∙ ap (λ (b : Bool). cond (not b) (Verdict.Refused Length) (first (markingLines g m))) f
     ∙ ap (λ (b : Bool). cond (not b) (Verdict.Refused Outside) Verdict.Clear) i)
+
+pub run-inside : (g : Graph) (m : Marking) (j : List ℕ) → graphVerdict g ≡ Verdict.Clear → lengthFits j ≡ true → markingFits (g .steps) m ≡ true
+    → theRun g m j ≡ runOn g m 0 (entries j)
+run-inside g m j e f i = run-clear g m j e f i ∙ run-from g m 0 (entries j) e (fits-inside (g .steps) m i)
+
+-- ---- a walk, by what is found of the journal and the place
+
+pub walk-fits : (j : List ℕ) (k : ℕ) → lengthFits j ≡ true → strideAt j k ≡ handOut k (drop k (entries j))
+unfolding strideAt strideOf first
+walk-fits j k f = ap (λ (b : Bool). strideOf k (cond (not b) (Verdict.Refused Length) Verdict.Clear) (handOut k (drop k (entries j)))) f
+
+pub walk-length : (j : List ℕ) (k : ℕ) → lengthFits j ≡ false → strideAt j k ≡ stays k (Walked.Refused Length)
+unfolding strideAt strideOf first
+walk-length j k f = ap (λ (b : Bool). strideOf k (cond (not b) (Verdict.Refused Length) Verdict.Clear) (handOut k (drop k (entries j)))) f
+
+pub walk-entry : (j : List ℕ) (k : ℕ) → lengthFits j ≡ true → 3 * k + 3 ≤ length j → strideAt j k ≡ record { said = Walked.At (entryAt j k); place = k + 1 }
+unfolding handOut
+walk-entry j k f h =
+    let room : 3 * k ≤ length j = omega arith in
+    walk-fits j k f ∙ ap (handOut k) (sym (entries-drop j k room) ∙ entries-from j k h)
+
+pub walk-end : (j : List ℕ) (k : ℕ) → lengthFits j ≡ true → length j ≤ 3 * k → strideAt j k ≡ stays k Walked.End
+unfolding handOut
+walk-end j k f h =
+    let count : length (entries j) * 3 ≡ length j = entries-length j (fits-threes j f) in
+    walk-fits j k f ∙ ap (handOut k) (drop-of-length-le (entries j) (let z : length (entries j) ≤ k = omega arith in z))

@@ -9,7 +9,7 @@ use Rattle.moves.specs.declared.Refusal.the-variants.{Length}
 use Rattle.moves.specs.declared.Verdict.{Verdict}
 use Rattle.moves.specs.declared.Move.{Move}
 use Rattle.moves.specs.First.{Line, first, numberOf, stepOf}
-use Rattle.rules.specs.Answers.{entryMove, markingLines}
+use Rattle.rules.specs.Answers.{theMove, markingLines}
 use Rattle.moves.specs.Move.{noMarking}
 use Rattle.journal.specs.declared.Ran.{Ran}
 use Rattle.journal.specs.Journal.{entries, lengthFits}
@@ -21,9 +21,9 @@ goOn k m (Move.Refused r back) rest = Ran.Stopped k r m
 
 -- running stops at the first entry not allowed, and answers that entry's index, its refusal, and the marking before it; if all pass,
 -- the answer is the end marking and the number of entries. Here of the entries from entry k on, in marking m
-unfoldable pub runOn : Graph → Marking → ℕ → List Entry → Ran
-runOn g m k [] = Ran.Ended m k
-runOn g m k (e ∷ rest) = goOn k m (entryMove g m e) (λ next. runOn g next (k + 1) rest)
+unfoldable pub runFrom : Graph → Marking → ℕ → List Entry → Ran
+runFrom g m k [] = Ran.Ended m k
+runFrom g m k (e ∷ rest) = goOn k m (theMove g m e) (λ next. runFrom g next (k + 1) rest)
 
 -- ---- the table, before any entry is looked at
 
@@ -42,7 +42,7 @@ runOf (Verdict.Refused r) ran = Ran.Stopped 0 r noMarking
 
 -- any journal on anything
 unfoldable pub theRun : Graph → Marking → List ℕ → Ran
-theRun g m j = runOf (first (runLines g m j)) (runOn g m 0 (entries j))
+theRun g m j = runOf (first (runLines g m j)) (runFrom g m 0 (entries j))
 
 -- ---- document 01's number and values of each case
 

@@ -22,7 +22,7 @@ use Rattle.moves.specs.Move.{markingFits}
 use Rattle.moves.specs.Given.{first-clear, first-refused}
 use Rattle.journal.specs.declared.Ran.{Ran}
 use Rattle.journal.specs.Journal.{entries, entryAt, lengthFits}
-use Rattle.journal.specs.Run.{runOn}
+use Rattle.journal.specs.Inner.{runOn}
 use Rattle.journal.specs.Run as run
 use Rattle.journal.specs.Allowed.{isAllowed, refused-moved}
 use Rattle.journal.specs.Laws.{entries-from}

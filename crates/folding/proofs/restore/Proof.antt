@@ -11,7 +11,7 @@ use Rattle.moves.specs.Move.{markingFits}
 use Rattle.tables.specs.Laws.{Counted}
 use Rattle.rules.specs.Laws.{clear-counts}
 use Rattle.journal.specs.Journal.{entries, lengthFits}
-use Rattle.journal.specs.Run.{runOn}
+use Rattle.journal.specs.Inner.{runOn}
 use Rattle.journal.specs.Laws.{fits-threes, fits-most}
 use Rattle.records.specs.Records.{applies, wellFormed}
 use Rattle.folding.specs.Answered.{restore-graph, restore-length, restore-outside, restore-ill, restore-on}

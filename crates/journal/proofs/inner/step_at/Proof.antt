@@ -9,8 +9,7 @@ use borrow.Author.Tests.{not-true, not-false}
 use Rattle.moves.specs.declared.Entry.{Entry}
 use Rattle.journal.specs.declared.Walked.{Walked}
 use Rattle.journal.specs.Journal.{lengthFits}
-use Rattle.journal.specs.Laws.{fits-threes}
-use Rattle.journal.specs.Walks.{walk-length, walk-entry, walk-end}
+use Rattle.journal.specs.Laws.{fits-threes, walk-length, walk-entry, walk-end}
 use Rattle.journal.proofs.inner.step_at.Statement.{statement}
 use Rattle.journal.proofs.inner.step_at.Tie as tie
 

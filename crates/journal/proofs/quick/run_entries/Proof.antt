@@ -15,7 +15,8 @@ use Rattle.tables.specs.Laws.{Counted}
 use Rattle.rules.specs.Laws.{clear-counts}
 use Rattle.journal.specs.declared.Ran.{Ran}
 use Rattle.journal.specs.Journal.{entries, entryAt}
-use Rattle.journal.specs.Run.{runOn, goOn}
+use Rattle.journal.specs.Run.{goOn}
+use Rattle.journal.specs.Inner.{runOn}
 use Rattle.journal.specs.Allowed.{Named, isAllowed, allowed-named, allowed-moved}
 use Rattle.journal.specs.Singles.{singles-all}
 use Rattle.journal.specs.Laws.{run-moved, run-stopped, run-ended}

@@ -17,16 +17,17 @@ use Rattle.moves.specs.declared.Refusal.{Refusal}
 use Rattle.moves.specs.declared.Verdict.{Verdict}
 use Rattle.moves.specs.declared.Move.{Move}
 use Rattle.moves.specs.First.{first, numberOf}
-use Rattle.rules.specs.Answers.{entryMove, markingLines}
+use Rattle.rules.specs.Answers.{theMove, entryMove, markingLines}
+use Rattle.rules.specs.Laws.{move-inside}
 use Rattle.moves.specs.Move.{markingFits, noMarking}
 use Rattle.moves.specs.Given.{numbersBelow, first-below, clear-head, clear-tail, clear-front, clear-back}
-use Rattle.rules.specs.Sound.{Sound, clear-sound}
+use Rattle.rules.specs.Sound.{clear-sound}
 use Rattle.moves.specs.Inside.{Inside, fits-inside, inside-fits}
 use Rattle.rules.specs.Entries.{entry-back, entry-inside}
 use Rattle.journal.specs.declared.Ran.{Ran}
 use Rattle.journal.specs.Journal.{entries, lengthFits}
-use Rattle.journal.specs.Run.{goOn, runOn, lengthLines, runLines, runOf, theRun, markingOfRun}
-use Rattle.journal.specs.Laws.{fits-threes, fits-most, entries-append, run-graph, run-outside, run-inside}
+use Rattle.journal.specs.Run.{goOn, runFrom, lengthLines, runLines, runOf, theRun, markingOfRun}
+use Rattle.journal.specs.Laws.{fits-threes, fits-most, entries-append, run-graph, run-outside, run-clear}
 
 -- ---- one after the other
 
@@ -35,13 +36,13 @@ unfoldable pub andThen : Ran → (Marking → ℕ → Ran) → Ran
 andThen (Ran.Ended m k) second = second m k
 andThen (Ran.Stopped k r m) second = Ran.Stopped k r m
 
-pub run-append : (g : Graph) (m : Marking) (k : ℕ) (a b : List Entry) → runOn g m k (a ++ b) ≡ andThen (runOn g m k a) (λ m′ k′. runOn g m′ k′ b)
-unfolding runOn goOn andThen
+pub run-append : (g : Graph) (m : Marking) (k : ℕ) (a b : List Entry) → runFrom g m k (a ++ b) ≡ andThen (runFrom g m k a) (λ m′ k′. runFrom g m′ k′ b)
+unfolding runFrom goOn andThen
 run-append g m k [] b = refl
-run-append g m k (e ∷ a) b = go (entryMove g m e) (λ next. run-append g next (k + 1) a b)
+run-append g m k (e ∷ a) b = go (theMove g m e) (λ next. run-append g next (k + 1) a b)
   where
-    go : (o : Move) → ((next : Marking) → runOn g next (k + 1) (a ++ b) ≡ andThen (runOn g next (k + 1) a) (λ m′ k′. runOn g m′ k′ b))
-        → goOn k m o (λ next. runOn g next (k + 1) (a ++ b)) ≡ andThen (goOn k m o (λ next. runOn g next (k + 1) a)) (λ m′ k′. runOn g m′ k′ b)
+    go : (o : Move) → ((next : Marking) → runFrom g next (k + 1) (a ++ b) ≡ andThen (runFrom g next (k + 1) a) (λ m′ k′. runFrom g m′ k′ b))
+        → goOn k m o (λ next. runFrom g next (k + 1) (a ++ b)) ≡ andThen (goOn k m o (λ next. runFrom g next (k + 1) a)) (λ m′ k′. runFrom g m′ k′ b)
     go (Move.Moved next) rest = rest next
     go (Move.Refused r back) rest = refl
 
@@ -50,14 +51,14 @@ unfoldable pub later : ℕ → Ran → Ran
 later n (Ran.Ended m k) = Ran.Ended m (n + k)
 later n (Ran.Stopped k r m) = Ran.Stopped (n + k) r m
 
-pub run-later : (g : Graph) (m : Marking) (n k : ℕ) (es : List Entry) → runOn g m (n + k) es ≡ later n (runOn g m k es)
-unfolding runOn goOn later
+pub run-later : (g : Graph) (m : Marking) (n k : ℕ) (es : List Entry) → runFrom g m (n + k) es ≡ later n (runFrom g m k es)
+unfolding runFrom goOn later
 run-later g m n k [] = refl
-run-later g m n k (e ∷ rest) = go (entryMove g m e) (λ next. run-later g next n (k + 1) rest)
+run-later g m n k (e ∷ rest) = go (theMove g m e) (λ next. run-later g next n (k + 1) rest)
   where
-    go : (o : Move) → ((next : Marking) → runOn g next (n + (k + 1)) rest ≡ later n (runOn g next (k + 1) rest))
-        → goOn (n + k) m o (λ next. runOn g next (n + k + 1) rest) ≡ later n (goOn k m o (λ next. runOn g next (k + 1) rest))
-    go (Move.Moved next) more = ap (λ (x : ℕ). runOn g next x rest) (let z : n + k + 1 ≡ n + (k + 1) = omega arith in z) ∙ more next
+    go : (o : Move) → ((next : Marking) → runFrom g next (n + (k + 1)) rest ≡ later n (runFrom g next (k + 1) rest))
+        → goOn (n + k) m o (λ next. runFrom g next (n + k + 1) rest) ≡ later n (goOn k m o (λ next. runFrom g next (k + 1) rest))
+    go (Move.Moved next) more = ap (λ (x : ℕ). runFrom g next x rest) (let z : n + k + 1 ≡ n + (k + 1) = omega arith in z) ∙ more next
     go (Move.Refused r back) more = refl
 
 -- ---- where a run ends or stops
@@ -65,48 +66,52 @@ run-later g m n k (e ∷ rest) = go (entryMove g m e) (λ next. run-later g next
 -- the entries are allowed one after the other, from m to m′
 unfoldable pub Passes : Graph → Marking → List Entry → Marking → Type 0
 Passes g m [] m′ = m ≡ m′
-Passes g m (e ∷ rest) m′ = (next : Marking) × (entryMove g m e ≡ Move.Moved next) × Passes g next rest m′
+Passes g m (e ∷ rest) m′ = (next : Marking) × (theMove g m e ≡ Move.Moved next) × Passes g next rest m′
 
 -- the entries before entry k are allowed, from m to m′, and entry k is refused in m′
 pub record StopsAt (g : Graph) (m : Marking) (es : List Entry) (k : ℕ) (r : Refusal) (m′ : Marking) : Type 0 where
   pub small : k < length es
   pub before : Passes g m (take k es) m′
-  pub refused : (d : Entry) → entryMove g m′ (getD es k d) ≡ Move.Refused r m′
+  pub refused : (d : Entry) → theMove g m′ (getD es k d) ≡ Move.Refused r m′
 
 -- a run ends exactly if all pass
-pub run-passes : (g : Graph) (m m′ : Marking) (k n : ℕ) (es : List Entry) → runOn g m k es ≡ Ran.Ended m′ n → (n ≡ k + length es) × Passes g m es m′
-unfolding runOn goOn Passes
+pub run-passes : (g : Graph) (m m′ : Marking) (k n : ℕ) (es : List Entry) → runFrom g m k es ≡ Ran.Ended m′ n → (n ≡ k + length es) × Passes g m es m′
+unfolding runFrom goOn Passes
 run-passes g m m′ k n [] e = (let a : k ≡ n = cc in let z : n ≡ k + 0 = omega arith in z, cc)
-run-passes g m m′ k n (x ∷ rest) e = go (entryMove g m x) refl (λ next. run-passes g next m′ (k + 1) n rest)
+run-passes g m m′ k n (x ∷ rest) e = go (theMove g m x) refl (λ next. run-passes g next m′ (k + 1) n rest)
   where
-    go : (o : Move) → entryMove g m x ≡ o → ((next : Marking) → runOn g next (k + 1) rest ≡ Ran.Ended m′ n → (n ≡ k + 1 + length rest) × Passes g next rest m′)
-        → (n ≡ k + suc (length rest)) × ((next : Marking) × (entryMove g m x ≡ Move.Moved next) × Passes g next rest m′)
+    go : (o : Move) → theMove g m x ≡ o → ((next : Marking) → runFrom g next (k + 1) rest ≡ Ran.Ended m′ n → (n ≡ k + 1 + length rest) × Passes g next rest m′)
+        → (n ≡ k + suc (length rest)) × ((next : Marking) × (theMove g m x ≡ Move.Moved next) × Passes g next rest m′)
     go (Move.Moved next) q more =
-        let f = more next (ap (λ (o : Move). goOn k m o (λ y. runOn g y (k + 1) rest)) (sym q) ∙ e) in
+        let f = more next (ap (λ (o : Move). goOn k m o (λ y. runFrom g y (k + 1) rest)) (sym q) ∙ e) in
         let count : n ≡ k + 1 + length rest = f .0 in
         (let z : n ≡ k + suc (length rest) = omega arith in z, (next, q, f .1))
     go (Move.Refused r back) q more =
-        absurd (let s : Ran.Stopped k r m ≡ Ran.Ended m′ n = ap (λ (o : Move). goOn k m o (λ y. runOn g y (k + 1) rest)) (sym q) ∙ e in let z : _≡_ {A = ℕ} 0 1 = cc in let w : ⊥ = omega arith in w)
+        absurd (let s : Ran.Stopped k r m ≡ Ran.Ended m′ n = ap (λ (o : Move). goOn k m o (λ y. runFrom g y (k + 1) rest)) (sym q) ∙ e in let z : _≡_ {A = ℕ} 0 1 = cc in let w : ⊥ = omega arith in w)
 
-pub passes-run : (g : Graph) (m m′ : Marking) (k : ℕ) (es : List Entry) → Passes g m es m′ → runOn g m k es ≡ Ran.Ended m′ (k + length es)
-unfolding runOn goOn Passes
+pub passes-run : (g : Graph) (m m′ : Marking) (k : ℕ) (es : List Entry) → Passes g m es m′ → runFrom g m k es ≡ Ran.Ended m′ (k + length es)
+unfolding runFrom goOn Passes
 passes-run g m m′ k [] p = ap (λ (x : Marking). Ran.Ended x k) p ∙ ap (Ran.Ended m′) (sym (add-zero k))
 passes-run g m m′ k (e ∷ rest) p =
-    ap (λ (o : Move). goOn k m o (λ y. runOn g y (k + 1) rest)) (p .1)
+    ap (λ (o : Move). goOn k m o (λ y. runFrom g y (k + 1) rest)) (p .1)
     ∙ passes-run g (p .0) m′ (k + 1) rest (p .2)
     ∙ ap (Ran.Ended m′) (let z : k + 1 + length rest ≡ k + suc (length rest) = omega arith in z)
 
 -- a run that stops stops at the first entry not allowed
-pub run-stops : (g : Graph) (m m′ : Marking) (k n : ℕ) (r : Refusal) (es : List Entry) → runOn g m k es ≡ Ran.Stopped n r m′
-    → (i : ℕ) × (n ≡ k + i) × StopsAt g m es i r m′
-unfolding runOn goOn Passes
-run-stops g m m′ k n r [] e = absurd (let z : _≡_ {A = ℕ} 0 1 = cc in let w : ⊥ = omega arith in w)
-run-stops g m m′ k n r (x ∷ rest) e = go (entryMove g m x) refl (λ next. run-stops g next m′ (k + 1) n r rest)
+pub run-stops : (g : Graph) (m m′ : Marking) (k n : ℕ) (r : Refusal) (es : List Entry) → graphVerdict g ≡ Verdict.Clear → Inside (g .steps) m
+    → runFrom g m k es ≡ Ran.Stopped n r m′ → (i : ℕ) × (n ≡ k + i) × StopsAt g m es i r m′
+unfolding runFrom goOn Passes
+run-stops g m m′ k n r [] clear within e = absurd (let z : _≡_ {A = ℕ} 0 1 = cc in let w : ⊥ = omega arith in w)
+run-stops g m m′ k n r (x ∷ rest) clear within e = go (theMove g m x) refl (λ next. run-stops g next m′ (k + 1) n r rest clear)
   where
-    go : (o : Move) → entryMove g m x ≡ o → ((next : Marking) → runOn g next (k + 1) rest ≡ Ran.Stopped n r m′ → (i : ℕ) × (n ≡ k + 1 + i) × StopsAt g next rest i r m′)
+    by-entry : theMove g m x ≡ entryMove g m x
+    by-entry = move-inside g m x clear (inside-fits (g .steps) m within)
+
+    go : (o : Move) → theMove g m x ≡ o
+        → ((next : Marking) → Inside (g .steps) next → runFrom g next (k + 1) rest ≡ Ran.Stopped n r m′ → (i : ℕ) × (n ≡ k + 1 + i) × StopsAt g next rest i r m′)
         → (i : ℕ) × (n ≡ k + i) × StopsAt g m (x ∷ rest) i r m′
     go (Move.Moved next) q more =
-        let f = more next (ap (λ (o : Move). goOn k m o (λ y. runOn g y (k + 1) rest)) (sym q) ∙ e) in
+        let f = more next (entry-inside g m next x (clear-sound g clear) within (sym by-entry ∙ q)) (ap (λ (o : Move). goOn k m o (λ y. runFrom g y (k + 1) rest)) (sym q) ∙ e) in
         let count : n ≡ k + 1 + f .0 = f .1 in
         let low : f .0 < length rest = f .2 .small in (
           suc (f .0),
@@ -114,36 +119,37 @@ run-stops g m m′ k n r (x ∷ rest) e = go (entryMove g m x) refl (λ next. ru
           record { small = (let z : suc (f .0) < suc (length rest) = omega arith in z); before = (next, q, f .2 .before); refused = f .2 .refused },
         )
     go (Move.Refused p back) q more =
-        let s : Ran.Stopped k p m ≡ Ran.Stopped n r m′ = ap (λ (o : Move). goOn k m o (λ y. runOn g y (k + 1) rest)) (sym q) ∙ e in
+        let s : Ran.Stopped k p m ≡ Ran.Stopped n r m′ = ap (λ (o : Move). goOn k m o (λ y. runFrom g y (k + 1) rest)) (sym q) ∙ e in
         let here : k ≡ n = cc in
         let why : p ≡ r = cc in
         let left : m ≡ m′ = cc in
-        let same : m ≡ back = entry-back g m back x p q .1 in
+        let same : m ≡ back = entry-back g m back x p (sym by-entry ∙ q) .1 in
         (0, let z : n ≡ k + 0 = omega arith in z, record { small = (let z : 0 < suc (length rest) = omega arith in z); before = left; refused = λ d. cc })
 
-pub stops-run : (g : Graph) (m m′ : Marking) (k i : ℕ) (r : Refusal) (es : List Entry) → StopsAt g m es i r m′ → runOn g m k es ≡ Ran.Stopped (k + i) r m′
-unfolding runOn goOn Passes
+pub stops-run : (g : Graph) (m m′ : Marking) (k i : ℕ) (r : Refusal) (es : List Entry) → StopsAt g m es i r m′ → runFrom g m k es ≡ Ran.Stopped (k + i) r m′
+unfolding runFrom goOn Passes
 stops-run g m m′ k i r [] s = absurd (let low : i < 0 = s .small in let w : ⊥ = omega arith in w)
 stops-run g m m′ k zero r (e ∷ rest) s =
-    ap (λ (x : Marking). goOn k x (entryMove g x e) (λ y. runOn g y (k + 1) rest)) (s .before)
-    ∙ ap (λ (o : Move). goOn k m′ o (λ y. runOn g y (k + 1) rest)) (s .refused e)
+    ap (λ (x : Marking). goOn k x (theMove g x e) (λ y. runFrom g y (k + 1) rest)) (s .before)
+    ∙ ap (λ (o : Move). goOn k m′ o (λ y. runFrom g y (k + 1) rest)) (s .refused e)
     ∙ ap (λ (x : ℕ). Ran.Stopped x r m′) (sym (add-zero k))
 stops-run g m m′ k (suc i) r (e ∷ rest) s =
     let low : suc i < suc (length rest) = s .small in
-    ap (λ (o : Move). goOn k m o (λ y. runOn g y (k + 1) rest)) (s .before .1)
+    ap (λ (o : Move). goOn k m o (λ y. runFrom g y (k + 1) rest)) (s .before .1)
     ∙ stops-run g (s .before .0) m′ (k + 1) i r rest (record { small = (let z : i < length rest = omega arith in z); before = s .before .2; refused = s .refused })
     ∙ ap (λ (x : ℕ). Ran.Stopped x r m′) (let z : k + 1 + i ≡ k + suc i = omega arith in z)
 
 -- ---- the marking a run leaves
 
-pub run-within : (g : Graph) (m : Marking) (k : ℕ) (es : List Entry) → Sound g → Inside (g .steps) m → Inside (g .steps) (markingOfRun (runOn g m k es))
-unfolding runOn goOn markingOfRun
-run-within g m k [] sound i = i
-run-within g m k (e ∷ rest) sound i = go (entryMove g m e) refl (λ next. run-within g next (k + 1) rest sound)
+pub run-within : (g : Graph) (m : Marking) (k : ℕ) (es : List Entry) → graphVerdict g ≡ Verdict.Clear → Inside (g .steps) m
+    → Inside (g .steps) (markingOfRun (runFrom g m k es))
+unfolding runFrom goOn markingOfRun
+run-within g m k [] clear i = i
+run-within g m k (e ∷ rest) clear i = go (theMove g m e) refl (λ next. run-within g next (k + 1) rest clear)
   where
-    go : (o : Move) → entryMove g m e ≡ o → ((next : Marking) → Inside (g .steps) next → Inside (g .steps) (markingOfRun (runOn g next (k + 1) rest)))
-        → Inside (g .steps) (markingOfRun (goOn k m o (λ y. runOn g y (k + 1) rest)))
-    go (Move.Moved next) q more = more next (entry-inside g m next e sound i q)
+    go : (o : Move) → theMove g m e ≡ o → ((next : Marking) → Inside (g .steps) next → Inside (g .steps) (markingOfRun (runFrom g next (k + 1) rest)))
+        → Inside (g .steps) (markingOfRun (goOn k m o (λ y. runFrom g y (k + 1) rest)))
+    go (Move.Moved next) q more = more next (entry-inside g m next e (clear-sound g clear) i (sym (move-inside g m e clear (inside-fits (g .steps) m i)) ∙ q))
     go (Move.Refused r back) q more = i
 
 -- ---- the same of a journal
@@ -171,11 +177,11 @@ ended-passes g m m′ n j e = go (first (runLines g m j)) refl
   where
     go : (v : Verdict) → first (runLines g m j) ≡ v → Ready g m j × (n ≡ length (entries j)) × Passes g m (entries j) m′
     go Verdict.Clear q =
-        let p = run-passes g m m′ 0 n (entries j) (ap (λ (v : Verdict). runOf v (runOn g m 0 (entries j))) (sym q) ∙ e) in
+        let p = run-passes g m m′ 0 n (entries j) (ap (λ (v : Verdict). runOf v (runFrom g m 0 (entries j))) (sym q) ∙ e) in
         let count : n ≡ 0 + length (entries j) = p .0 in
         (ready g m j q, let z : n ≡ length (entries j) = omega arith in z, p .1)
     go (Verdict.Refused r) q =
-        absurd (let s : Ran.Stopped 0 r noMarking ≡ Ran.Ended m′ n = ap (λ (v : Verdict). runOf v (runOn g m 0 (entries j))) (sym q) ∙ e in let z : _≡_ {A = ℕ} 0 1 = cc in let w : ⊥ = omega arith in w)
+        absurd (let s : Ran.Stopped 0 r noMarking ≡ Ran.Ended m′ n = ap (λ (v : Verdict). runOf v (runFrom g m 0 (entries j))) (sym q) ∙ e in let z : _≡_ {A = ℕ} 0 1 = cc in let w : ⊥ = omega arith in w)
 
 -- a run that stops at an entry stops at the first not allowed
 pub stopped-first : (g : Graph) (m m′ : Marking) (n : ℕ) (r : Refusal) (j : List ℕ) → theRun g m j ≡ Ran.Stopped n r m′ → 11 ≤ numberOf r
@@ -185,11 +191,12 @@ stopped-first g m m′ n r j e high = go (first (runLines g m j)) refl
   where
     go : (v : Verdict) → first (runLines g m j) ≡ v → Ready g m j × StopsAt g m (entries j) n r m′
     go Verdict.Clear q =
-        let s = run-stops g m m′ 0 n r (entries j) (ap (λ (v : Verdict). runOf v (runOn g m 0 (entries j))) (sym q) ∙ e) in
+        let known = ready g m j q in
+        let s = run-stops g m m′ 0 n r (entries j) (known .clear) (fits-inside (g .steps) m (known .within)) (ap (λ (v : Verdict). runOf v (runFrom g m 0 (entries j))) (sym q) ∙ e) in
         let place : n ≡ 0 + s .0 = s .1 in
-        (ready g m j q, subst (λ (x : ℕ). StopsAt g m (entries j) x r m′) (let z : s .0 ≡ n = omega arith in z) (s .2))
+        (known, subst (λ (x : ℕ). StopsAt g m (entries j) x r m′) (let z : s .0 ≡ n = omega arith in z) (s .2))
     go (Verdict.Refused p) q =
-        let s : Ran.Stopped 0 p noMarking ≡ Ran.Stopped n r m′ = ap (λ (v : Verdict). runOf v (runOn g m 0 (entries j))) (sym q) ∙ e in
+        let s : Ran.Stopped 0 p noMarking ≡ Ran.Stopped n r m′ = ap (λ (v : Verdict). runOf v (runFrom g m 0 (entries j))) (sym q) ∙ e in
         let same : p ≡ r = cc in
         let low : numberOf r < 11 = subst (λ (x : Refusal). numberOf x < 11) same (first-below 11 (runLines g m j) p refl q) in
         absurd (let w : ⊥ = omega arith in w)
@@ -199,10 +206,10 @@ pub left-within : (g : Graph) (m : Marking) (j : List ℕ) → Inside (g .steps)
 unfolding theRun runOf markingOfRun
 left-within g m j = go (first (runLines g m j)) refl
   where
-    go : (v : Verdict) → first (runLines g m j) ≡ v → Inside (g .steps) (markingOfRun (runOf v (runOn g m 0 (entries j))))
+    go : (v : Verdict) → first (runLines g m j) ≡ v → Inside (g .steps) (markingOfRun (runOf v (runFrom g m 0 (entries j))))
     go Verdict.Clear q =
         let known = ready g m j q in
-        run-within g m 0 (entries j) (clear-sound g (known .clear)) (fits-inside (g .steps) m (known .within))
+        run-within g m 0 (entries j) (known .clear) (fits-inside (g .steps) m (known .within))
     go (Verdict.Refused r) q = record { done-in = pow-pos (g .steps); due-in = pow-pos (g .steps); included-in = pow-pos (g .steps) }
 
 -- the run of a ++ b is the run of a and then of b
@@ -228,20 +235,20 @@ journals-append g m a b fa fab = graph (graphVerdict g) refl
     fb = and-intro (eq-eqb (length b % 3) 0 threes) (le-leb (length b) 65535 most)
 
     second : graphVerdict g ≡ Verdict.Clear → (v : Ran) → Inside (g .steps) (markingOfRun v)
-        → andThen v (λ m′ k. runOn g m′ k (entries b)) ≡ andThen v (λ m′ n. later n (theRun g m′ b))
+        → andThen v (λ m′ k. runFrom g m′ k (entries b)) ≡ andThen v (λ m′ n. later n (theRun g m′ b))
     second clear (Ran.Ended m′ n) i =
-        ap (λ (x : ℕ). runOn g m′ x (entries b)) (sym (add-zero n))
+        ap (λ (x : ℕ). runFrom g m′ x (entries b)) (sym (add-zero n))
         ∙ run-later g m′ n 0 (entries b)
-        ∙ ap (later n) (sym (run-inside g m′ b clear fb (inside-fits (g .steps) m′ i)))
+        ∙ ap (later n) (sym (run-clear g m′ b clear fb (inside-fits (g .steps) m′ i)))
     second clear (Ran.Stopped k r m′) i = refl
 
     marking : graphVerdict g ≡ Verdict.Clear → (t : Bool) → markingFits (g .steps) m ≡ t → theRun g m (a ++ b) ≡ andThen (theRun g m a) (λ m′ n. later n (theRun g m′ b))
     marking clear true p =
-        run-inside g m (a ++ b) clear fab p
-        ∙ ap (runOn g m 0) (entries-append a b (fits-threes a fa))
+        run-clear g m (a ++ b) clear fab p
+        ∙ ap (runFrom g m 0) (entries-append a b (fits-threes a fa))
         ∙ run-append g m 0 (entries a) (entries b)
-        ∙ second clear (runOn g m 0 (entries a)) (run-within g m 0 (entries a) (clear-sound g clear) (fits-inside (g .steps) m p))
-        ∙ ap (λ (v : Ran). andThen v (λ m′ n. later n (theRun g m′ b))) (sym (run-inside g m a clear fa p))
+        ∙ second clear (runFrom g m 0 (entries a)) (run-within g m 0 (entries a) clear (fits-inside (g .steps) m p))
+        ∙ ap (λ (v : Ran). andThen v (λ m′ n. later n (theRun g m′ b))) (sym (run-clear g m a clear fa p))
     marking clear false p =
         run-outside g m (a ++ b) clear fab p ∙ ap (λ (v : Ran). andThen v (λ m′ n. later n (theRun g m′ b))) (sym (run-outside g m a clear fa p))
 

@@ -3,49 +3,25 @@
 use Prim.Native.Nat.{ℕ, zero, suc, _+_, _*_, _≤_, _<_}
 use mathlib.Core.Path.{_≡_, refl, sym, ap, _∙_, subst}
 use mathlib.Core.List.{List, [], _∷_}
-use mathlib.Core.Bool.{Bool, true, false, not, cond}
+use mathlib.Core.Bool.{true, false}
 use native.Mathlib.Omega.{arith}
-use lib.ListN.{length, take, drop, drop-of-length-le}
+use lib.ListN.{length, take, drop}
 use lib.Seq.{take-nil, take-all, drop-drop}
 use Rattle.rules.specs.Graph.{Graph}
 use Rattle.moves.specs.declared.Marking.{Marking}
 use Rattle.moves.specs.declared.Entry.{Entry}
 use Rattle.moves.specs.declared.Refusal.{Refusal}
-use Rattle.moves.specs.declared.Refusal.the-variants.{Length}
-use Rattle.moves.specs.declared.Verdict.{Verdict}
 use Rattle.moves.specs.declared.Move.{Move}
-use Rattle.moves.specs.First.{first, numberOf}
-use Rattle.rules.specs.Answers.{entryMove}
+use Rattle.moves.specs.First.{numberOf}
+use Rattle.rules.specs.Answers.{theMove}
 use Rattle.journal.specs.declared.Ran.{Ran}
 use Rattle.journal.specs.declared.Walked.{Walked}
 use Rattle.journal.specs.declared.Stride.{Stride}
 use Rattle.journal.specs.Journal.{entryOf, entries, entryAt, lengthFits}
 use Rattle.journal.specs.Run.{theRun}
-use Rattle.journal.specs.Walk.{stays, handOut, strideOf, strideAt}
-use Rattle.journal.specs.Laws.{fits-threes, entries-length, entries-at, entries-from, entries-drop}
-use Rattle.journal.specs.Runs.{Passes, ended-passes, stopped-first}
-
--- ---- a walk, by what is found of the journal and the place
-
-fits : (j : List ℕ) (k : ℕ) → lengthFits j ≡ true → strideAt j k ≡ handOut k (drop k (entries j))
-unfolding strideAt strideOf first
-fits j k f = ap (λ (b : Bool). strideOf k (cond (not b) (Verdict.Refused Length) Verdict.Clear) (handOut k (drop k (entries j)))) f
-
-pub walk-length : (j : List ℕ) (k : ℕ) → lengthFits j ≡ false → strideAt j k ≡ stays k (Walked.Refused Length)
-unfolding strideAt strideOf first
-walk-length j k f = ap (λ (b : Bool). strideOf k (cond (not b) (Verdict.Refused Length) Verdict.Clear) (handOut k (drop k (entries j)))) f
-
-pub walk-entry : (j : List ℕ) (k : ℕ) → lengthFits j ≡ true → 3 * k + 3 ≤ length j → strideAt j k ≡ record { said = Walked.At (entryAt j k); place = k + 1 }
-unfolding handOut
-walk-entry j k f h =
-    let room : 3 * k ≤ length j = omega arith in
-    fits j k f ∙ ap (handOut k) (sym (entries-drop j k room) ∙ entries-from j k h)
-
-pub walk-end : (j : List ℕ) (k : ℕ) → lengthFits j ≡ true → length j ≤ 3 * k → strideAt j k ≡ stays k Walked.End
-unfolding handOut
-walk-end j k f h =
-    let count : length (entries j) * 3 ≡ length j = entries-length j (fits-threes j f) in
-    fits j k f ∙ ap (handOut k) (drop-of-length-le (entries j) (let z : length (entries j) ≤ k = omega arith in z))
+use Rattle.journal.specs.Walk.{handOut, strideAt}
+use Rattle.journal.specs.Laws.{walk-fits, walk-length, walk-entry, walk-end, fits-threes, entries-length, entries-at}
+use Rattle.runs.specs.Runs.{Passes, ended-passes, stopped-first}
 
 -- ---- walk and run agree entry by entry
 
@@ -69,10 +45,10 @@ walk-hands (suc n) j k f = go (drop k (entries j)) refl (λ i. walk-hands n j i 
     go : (es : List Entry) → drop k (entries j) ≡ es → ((i : ℕ) → handed n j i ≡ take n (drop i (entries j)))
         → before (strideAt j k .said) (handed n j (strideAt j k .place)) ≡ take (suc n) (drop k (entries j))
     go [] q more =
-        ap (λ (s : Stride). before (s .said) (handed n j (s .place))) (fits j k f ∙ ap (handOut k) q)
+        ap (λ (s : Stride). before (s .said) (handed n j (s .place))) (walk-fits j k f ∙ ap (handOut k) q)
         ∙ more k ∙ ap (take n) q ∙ take-nil n ∙ ap (take (suc n)) (sym q)
     go (e ∷ rest) q more =
-        ap (λ (s : Stride). before (s .said) (handed n j (s .place))) (fits j k f ∙ ap (handOut k) q)
+        ap (λ (s : Stride). before (s .said) (handed n j (s .place))) (walk-fits j k f ∙ ap (handOut k) q)
         ∙ ap (λ (t : List Entry). e ∷ t) (more (k + 1) ∙ ap (take n) (sym (drop-drop 1 k (entries j)) ∙ ap (drop 1) q))
         ∙ ap (take (suc n)) (sym q)
 
@@ -84,7 +60,7 @@ walk-hands-none (suc n) j k f = ap (λ (s : Stride). before (s .said) (handed n 
 
 -- where a run stops, the walk hands out the entry that it stopped at, after those that passed
 pub stopped-walk : (g : Graph) (m m′ : Marking) (k : ℕ) (r : Refusal) (j : List ℕ) → theRun g m j ≡ Ran.Stopped k r m′ → 11 ≤ numberOf r
-    → Passes g m (handed k j 0) m′ × (strideAt j k .said ≡ Walked.At (entryAt j k)) × (entryMove g m′ (entryAt j k) ≡ Move.Refused r m′)
+    → Passes g m (handed k j 0) m′ × (strideAt j k .said ≡ Walked.At (entryAt j k)) × (theMove g m′ (entryAt j k) ≡ Move.Refused r m′)
 stopped-walk g m m′ k r j e high =
     let known = stopped-first g m m′ k r j e high in
     let count : length (entries j) * 3 ≡ length j = entries-length j (fits-threes j (known .0 .long)) in
@@ -92,7 +68,7 @@ stopped-walk g m m′ k r j e high =
     let room : 3 * k + 3 ≤ length j = omega arith in (
       subst (λ (es : List Entry). Passes g m es m′) (sym (walk-hands k j 0 (known .0 .long))) (known .1 .before),
       ap (λ (s : Stride). s .said) (walk-entry j k (known .0 .long) room),
-      ap (entryMove g m′) (sym (entries-at j k (entryOf 0 0 0) room)) ∙ known .1 .refused (entryOf 0 0 0),
+      ap (theMove g m′) (sym (entries-at j k (entryOf 0 0 0) room)) ∙ known .1 .refused (entryOf 0 0 0),
     )
 
 -- where a run ends, the walk has handed out what passed, and says so
