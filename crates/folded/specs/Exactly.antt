@@ -28,7 +28,8 @@ use Rattle.records.specs.Records.{acts, applies, gives, wellFormed}
 use Rattle.records.specs.Laws.{applies-never}
 use Rattle.records.specs.WellFormed.{well-formed}
 use Rattle.exact.specs.Unique.{unique, everything, everything-inside, applies-everything}
-use Rattle.folding.specs.Fold.{rowAt, possible, foldOf, movedTo, passes}
+use Rattle.folding.specs.Fold.{rowAt, possible, foldOf}
+use Rattle.folding.specs.Effect.{movedTo, passes}
 use Rattle.folding.specs.Laws.{moved-if, acts-fold, fold-well-formed}
 use Rattle.folding.specs.Answers.{theFold}
 use Rattle.folding.specs.Answered.{fold-clear}

@@ -35,7 +35,8 @@ use Rattle.records.specs.Laws.{acts-some, acts-none}
 use Rattle.records.specs.WellFormed.{WellFormed, well-formed, of-well-formed}
 use Rattle.records.specs.Answers.{theJoin, theApplication}
 use Rattle.records.specs.Answered.{Applying, applying, applied-of, joins, gives-inside}
-use Rattle.folding.specs.Fold.{foldOf, movedTo, passes}
+use Rattle.folding.specs.Fold.{foldOf}
+use Rattle.folding.specs.Effect.{movedTo, passes}
 use Rattle.folding.specs.Laws.{fold-well-formed, acts-fold, fold-append}
 use Rattle.folding.specs.Answers.{theFold, theRestoring}
 use Rattle.folding.specs.Answered.{fold-graph, fold-length, fold-clear, restore-graph, restore-length, restore-on}

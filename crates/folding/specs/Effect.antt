@@ -1,5 +1,8 @@
--- What a list of entries does, allowed or not. No promise speaks of it; laps are decided through it.
+-- What a list of entries does, allowed one by one or not. No promise speaks of it: folds and laps are proved through it.
 use mathlib.Core.List.{List, [], _∷_}
+use mathlib.Core.Option.{Option, none, some, bind}
+use Rattle.moves.specs.declared.Move.{Move}
+use Rattle.rules.specs.Answers.{entryMove}
 use Rattle.rules.specs.Graph.{Graph}
 use Rattle.moves.specs.declared.Marking.{Marking}
 use Rattle.moves.specs.declared.Entry.{Entry}
@@ -17,3 +20,15 @@ afterAll g m (e ∷ rest) = afterAll g (after (rowAt g e) m (e .step .0)) rest
 unfoldable pub effect : Graph → List Entry → Record
 effect g [] = identity
 effect g (e ∷ rest) = compose (stepRecord (rowAt g e) (e .step .0)) (effect g rest)
+
+-- ---- the entries, one by one
+
+-- the marking after an allowed entry
+unfoldable pub movedTo : Move → Option Marking
+movedTo (Move.Moved next) = some next
+movedTo (Move.Refused r back) = none
+
+-- the end marking, if every entry is allowed
+unfoldable pub passes : Graph → Marking → List Entry → Option Marking
+passes g m [] = some m
+passes g m (e ∷ rest) = bind (movedTo (entryMove g m e)) (λ next. passes g next rest)

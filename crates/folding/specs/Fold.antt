@@ -2,14 +2,11 @@
 use Prim.Native.Nat.{ℕ}
 use mathlib.Core.List.{List, [], _∷_}
 use mathlib.Core.Bool.{Bool, false, _&&_, cond}
-use mathlib.Core.Option.{Option, none, some, bind}
 use Rattle.sets.specs.Sets.{single, minus}
 use Rattle.rules.specs.Graph.{Graph}
 use Rattle.moves.specs.declared.inner.Row.{Row}
-use Rattle.moves.specs.declared.Marking.{Marking}
 use Rattle.moves.specs.declared.Entry.{Entry}
-use Rattle.moves.specs.declared.Move.{Move}
-use Rattle.rules.specs.Answers.{rowOf, known, entryMove}
+use Rattle.rules.specs.Answers.{rowOf, known}
 use Rattle.moves.specs.Move.{personHolds, stepHas}
 use Rattle.records.specs.declared.Record.{Record}
 use Rattle.records.specs.Records.{identity, impossible, tidy, join}
@@ -46,15 +43,3 @@ entryRecord g e = cond (possible g e) (stepRecord (rowAt g e) (e .step .0)) impo
 unfoldable pub foldOf : Graph → List Entry → Record
 foldOf g [] = identity
 foldOf g (e ∷ rest) = join (tidy (entryRecord g e)) (foldOf g rest)
-
--- ---- the entries, one by one
-
--- the marking after an allowed entry
-unfoldable pub movedTo : Move → Option Marking
-movedTo (Move.Moved next) = some next
-movedTo (Move.Refused r back) = none
-
--- the end marking, if every entry is allowed
-unfoldable pub passes : Graph → Marking → List Entry → Option Marking
-passes g m [] = some m
-passes g m (e ∷ rest) = bind (movedTo (entryMove g m e)) (λ next. passes g next rest)

@@ -34,8 +34,8 @@ use Rattle.records.specs.Laws.{acts-join, acts-tidy, acts-compose, acts-identit
 use Rattle.records.specs.WellFormed.{Bounded, WellFormed, compose-bounded, identity-well-formed, tidy-well-formed, join-well-formed}
 use Rattle.exact.specs.Unique.{unique}
 use Rattle.exact.specs.Theorems.{then-none, then-again, then-same, join-assoc, join-identity-left}
-use Rattle.folding.specs.Fold.{rowAt, stepRecord, possible, entryRecord, foldOf, movedTo, passes}
-use Rattle.folding.specs.Effect.{afterAll, effect}
+use Rattle.folding.specs.Fold.{rowAt, stepRecord, possible, entryRecord, foldOf}
+use Rattle.folding.specs.Effect.{movedTo, passes, afterAll, effect}
 use Rattle.folding.specs.Possible.{possible-serves}
 
 -- ---- one entry

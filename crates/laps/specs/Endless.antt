@@ -8,9 +8,8 @@ use Rattle.rules.specs.Graph.{Graph}
 use Rattle.moves.specs.declared.Marking.{Marking}
 use Rattle.moves.specs.declared.Entry.{Entry}
 use Rattle.moves.specs.declared.Refusal.{Refusal}
-use Rattle.moves.specs.declared.Verdict.{Verdict}
-use Rattle.moves.specs.First.{first}
-use Rattle.rules.specs.Answers.{rowOf, entryLines}
+use Rattle.moves.specs.declared.Move.{Move}
+use Rattle.rules.specs.Answers.{rowOf, theMove}
 use Rattle.moves.specs.Move.{after}
 
 module _ (g : Graph) (m : Marking) (e : ℕ → Entry) where
@@ -39,18 +38,22 @@ module _ (g : Graph) (m : Marking) (e : ℕ → Entry) where
   abbrev pub DoneAt : ℕ → ℕ → Type 0
   DoneAt i s = s ≡ stepAt i
 
-  -- what is against the entry at i, read in the marking at i: 11 to 15
-  abbrev pub verdictAt : ℕ → Verdict
-  verdictAt i = first (entryLines g (markingAt i) (e i))
+  -- what the move answers to the entry at i, in the marking at i
+  abbrev pub movedAt : ℕ → Move
+  movedAt i = theMove g (markingAt i) (e i)
+
+  -- the entry at i is taken
+  abbrev pub TakenAt : ℕ → Type 0
+  TakenAt i = movedAt i ≡ Move.Moved (markingAt (suc i))
 
   -- the entry at i is the first that is not allowed, with refusal r
   pub record RefusedAt (i : ℕ) (r : Refusal) : Type 0 where
-    pub before : (j : ℕ) → j < i → verdictAt j ≡ Verdict.Clear
-    pub here : verdictAt i ≡ Verdict.Refused r
+    pub before : (j : ℕ) → j < i → TakenAt j
+    pub here : movedAt i ≡ Move.Refused r (markingAt i)
 
   -- every entry is allowed
   abbrev pub GoesOn : Type 0
-  GoesOn = (i : ℕ) → verdictAt i ≡ Verdict.Clear
+  GoesOn = (i : ℕ) → TakenAt i
 
   -- "∀ i ≥ 0, e ∈ Re_i. ∃ j ≥ i. (e = e_j ∨ e ∉ In_j)"
   abbrev pub Accepting : Type 0

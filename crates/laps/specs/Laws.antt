@@ -4,11 +4,10 @@ use Prim.Native.Nat.{ℕ, zero, suc, _≤_, _<_}
 use mathlib.Core.Path.{_≡_, refl, sym, ap, _∙_}
 use mathlib.Core.Logic.{_⊎_, inl, inr}
 use mathlib.Core.List.{List}
-use mathlib.Core.Bool.{Bool, true, cond, true≢false}
+use mathlib.Core.Bool.{true, true≢false}
 use native.Mathlib.Nat.{le-refl}
 use native.Mathlib.Omega.{arith}
 use native.Mathlib.Decide.{decLt}
-use borrow.Author.Tests.{le-leb}
 use Rattle.rules.specs.Graph.{Graph}
 use Rattle.moves.specs.declared.Marking.{Marking}
 use Rattle.moves.specs.declared.Entry.{Entry}
@@ -17,42 +16,33 @@ use Rattle.moves.specs.declared.Refusal.{Refusal}
 use Rattle.moves.specs.declared.Verdict.{Verdict}
 use Rattle.moves.specs.declared.Move.{Move}
 use Rattle.moves.specs.First.{first, numberOf}
-use Rattle.rules.specs.Answers.{entryLines, entryMove}
-use Rattle.moves.specs.Move.{moveOf, noMarking}
-use Rattle.moves.specs.Given.{ascends, clear-refused, first-above}
+use Rattle.moves.specs.Given.{ascends, clear-refused}
 use Rattle.journal.specs.Journal.{entries}
 use Rattle.laps.specs.declared.Lapped.{Lapped}
 use Rattle.laps.specs.declared.Pass.{Pass}
-use Rattle.laps.specs.Endless.{markingAt, verdictAt, DoneAt, ExcludedAt, RefusedAt, GoesOn, Accepting, Starving, Starves}
+use Rattle.laps.specs.Endless.{markingAt, movedAt, TakenAt, DoneAt, ExcludedAt, RefusedAt, GoesOn, Accepting, Starving, Starves}
 use Rattle.laps.specs.Laps.{runOf, indexAt, passAt, numberOfPass, lapLines, Stops, LapAnswer}
 use Rattle.laps.specs.Decision.{decision, lapOf, theLap}
 use Rattle.laps.specs.Places.{never-later}
-use Rattle.laps.specs.Right.{some, decision-right}
+use Rattle.laps.specs.Right.{some, sound, inside, decision-right}
 
 -- ---- any endless run
 
 module _ (g : Graph) (m : Marking) (e : ℕ → Entry) where
-  -- its moves are those of the rules
-  pub run-moves : (i : ℕ) → verdictAt g m e i ≡ Verdict.Clear → entryMove g (markingAt g m e i) (e i) ≡ Move.Moved (markingAt g m e (suc i))
-  unfolding entryMove moveOf markingAt
-  run-moves i q = ap (λ (v : Verdict). moveOf v (markingAt g m e i) (markingAt g m e (suc i))) q
-
-  pub run-refuses : (i : ℕ) (r : Refusal) → verdictAt g m e i ≡ Verdict.Refused r → entryMove g (markingAt g m e i) (e i) ≡ Move.Refused r (markingAt g m e i)
-  unfolding entryMove moveOf markingAt ascends numberOf
-  run-refuses i r q =
-      ap (λ (v : Verdict). moveOf v (markingAt g m e i) (markingAt g m e (suc i))) q
-      ∙ ap (λ (b : Bool). Move.Refused r (cond b (markingAt g m e i) noMarking)) (le-leb 11 (numberOf r) (let h : 10 < numberOf r = first-above 10 (entryLines g (markingAt g m e i) (e i)) r refl q in omega arith))
+  -- an entry that is taken is not refused
+  taken-refused : {A : Type 0} (i : ℕ) (r : Refusal) → TakenAt g m e i → movedAt g m e i ≡ Move.Refused r (markingAt g m e i) → A
+  taken-refused i r p q = absurd (let z : _≡_ {A = ℕ} 0 1 = cc in let w : ⊥ = omega arith in w)
 
   -- the first entry not allowed is one
   one-position : (i j : ℕ) (r q : Refusal) → RefusedAt g m e i r → RefusedAt g m e j q → (i ≡ j) × (r ≡ q)
   one-position i j r q a b = go (decLt i j) (decLt j i)
     where
       go : Dec (i < j) → Dec (j < i) → (i ≡ j) × (r ≡ q)
-      go (yes h) d = clear-refused (verdictAt g m e i) r (b .before i h) (a .here)
-      go (no h) (yes k) = clear-refused (verdictAt g m e j) q (a .before j k) (b .here)
+      go (yes h) d = taken-refused i r (b .before i h) (a .here)
+      go (no h) (yes k) = taken-refused j q (a .before j k) (b .here)
       go (no h) (no k) =
           let same : i ≡ j = omega arith in
-          let both : Verdict.Refused r ≡ Verdict.Refused q = sym (a .here) ∙ ap (verdictAt g m e) same ∙ b .here in
+          let both : Move.Refused r (markingAt g m e i) ≡ Move.Refused q (markingAt g m e j) = sym (a .here) ∙ ap (movedAt g m e) same ∙ b .here in
           (same, cc)
 
   one-starved : (s t : Step) → Starves g m e (s .0) → Starves g m e (t .0) → Lapped.Starved s ≡ Lapped.Starved t
@@ -127,7 +117,7 @@ module _ (g : Graph) (m : Marking) (stem lap : List ℕ) where
 
   -- a run that goes on is not refused
   on-or-stopped : {A : Type 0} (k : ℕ) (p : Pass) (r : Refusal) → GoesOn g m e → Stops g m S L k p r → A
-  on-or-stopped k p r on s = clear-refused (verdictAt g m e (s .position)) r (on (s .position)) (s .refused .here)
+  on-or-stopped k p r on s = taken-refused g m e (s .position) r (on (s .position)) (s .refused .here)
 
   -- any two answers are equal
   pub one-answer : (r q : Lapped) → LapAnswer g m stem lap r → LapAnswer g m stem lap q → r ≡ q
@@ -156,7 +146,7 @@ module _ (g : Graph) (m : Marking) (stem lap : List ℕ) where
   -- "pass 3 never happens"
   pub no-pass-3 : (k : ℕ) (r : Refusal) → LapAnswer g m stem lap (Lapped.Stopped k Pass.Later r) → ⊥
   unfolding LapAnswer
-  no-pass-3 k r a = never-later S L (some g m stem lap (a .0)) g m k r (a .1)
+  no-pass-3 k r a = never-later S L (some g m stem lap (a .0)) g m (sound g m stem lap (a .0)) (inside g m stem lap (a .0)) k r (a .1)
 
   -- ---- exactly one of refused, accepted, starved holds
 

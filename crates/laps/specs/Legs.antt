@@ -23,7 +23,8 @@ use Rattle.rules.specs.Answers.{rowOf, entryMove}
 use Rattle.moves.specs.Move.{after, moveOf}
 use Rattle.folding.specs.Effect.{afterAll}
 use Rattle.laps.specs.declared.inner.Leg.{Leg}
-use Rattle.laps.specs.Endless.{stepAt, markingAt, verdictAt, DueAt, DoneAt, ExcludedAt, Waiting}
+use Rattle.laps.specs.Endless.{stepAt, markingAt, DueAt, DoneAt, ExcludedAt, Waiting}
+use Rattle.laps.specs.Inner.{verdictAt}
 use Rattle.laps.specs.Decision.{still, goOn, legOn}
 
 -- ---- one step

@@ -1,5 +1,6 @@
 pub mod Endless
 pub mod Laps
+pub mod Inner
 pub mod Decision
 pub mod Legs
 pub mod Repeats

@@ -12,7 +12,9 @@ use lib.ListN.{length, getD}
 use lib.Dec.{ltb}
 use borrow.Author.Tests.{lt-ltb, le-ltb}
 use Rattle.sets.specs.Sets.{has}
-use Rattle.rules.specs.Graph.{Graph}
+use Rattle.rules.specs.Graph.{Graph, graphVerdict}
+use Rattle.moves.specs.declared.Move.{Move}
+use Rattle.moves.specs.Inside.{Inside}
 use Rattle.moves.specs.declared.Marking.{Marking}
 use Rattle.moves.specs.declared.Entry.{Entry}
 use Rattle.moves.specs.declared.Refusal.{Refusal}
@@ -21,7 +23,8 @@ use Rattle.journal.specs.Journal.{entryOf}
 use Rattle.folding.specs.Effect.{afterAll}
 use Rattle.folding.specs.Laws.{after-twice}
 use Rattle.laps.specs.declared.Pass.{Pass}
-use Rattle.laps.specs.Endless.{markingAt, verdictAt, DueAt, GoesOn, Waiting, Starving}
+use Rattle.laps.specs.Endless.{movedAt, TakenAt, markingAt, DueAt, Waiting, Starving}
+use Rattle.laps.specs.Inner.{verdictAt, Unbarred, taken-clear, moves-at}
 use Rattle.laps.specs.Laps.{runOf, indexAt, passAt, numberOfPass, Stops}
 use Rattle.laps.specs.Legs.{chunk, chunk-is, after-chunk, Kept}
 use Rattle.laps.specs.Repeats.{Decides, for-ever, starving-from, period-decides}
@@ -125,7 +128,7 @@ module _ (stem lap : List Entry) (some : 0 < length lap) where
     entry-again i h = run-again i (let z : length stem ≤ i = omega arith in z)
 
     -- a lap allowed twice is allowed for ever
-    pub twice-for-ever : ((i : ℕ) → i < second-lap + length lap → says i ≡ Verdict.Clear) → GoesOn g m e
+    pub twice-for-ever : ((i : ℕ) → i < second-lap + length lap → says i ≡ Verdict.Clear) → Unbarred g m e
     twice-for-ever h = for-ever g m e second-lap (length lap) some entry-again marking-again h
 
     -- the steps that wait throughout the second lap are those that starve
@@ -137,13 +140,14 @@ module _ (stem lap : List Entry) (some : 0 < length lap) where
     starving-laps = starving-from g m e second-lap (length lap) some entry-again marking-again
 
     -- pass 3 never occurs
-    pub never-later : (k : ℕ) (r : Refusal) → Stops g m stem lap k Pass.Later r → ⊥
+    pub never-later : graphVerdict g ≡ Verdict.Clear → Inside (g .steps) m → (k : ℕ) (r : Refusal) → Stops g m stem lap k Pass.Later r → ⊥
     unfolding numberOfPass
-    never-later k r s = go (decLt (s .position) (second-lap + length lap))
+    never-later clear within k r s = go (decLt (s .position) (second-lap + length lap))
       where
         go : Dec (s .position < second-lap + length lap) → ⊥
         go (yes h) = let low : passAt stem lap (s .position) < 3 = pass-low (s .position) h in let is : 3 ≡ passAt stem lap (s .position) = s .pass in omega arith
         go (no h) =
-            let all = twice-for-ever (λ i l. s .refused .before i (let z : i < s .position = omega arith in z)) (s .position) in
-            let c : Verdict.Refused r ≡ Verdict.Clear = sym (s .refused .here) ∙ all in
+            let all = twice-for-ever (λ i l. taken-clear g m e i (s .refused .before i (let z : i < s .position = omega arith in z))) in
+            let taken : TakenAt g m e (s .position) = moves-at g m e clear within (s .position) (λ j l. all j) (all (s .position)) in
+            let no : movedAt g m e (s .position) ≡ Move.Refused r (M (s .position)) = s .refused .here in
             let z : _≡_ {A = ℕ} 0 1 = cc in omega arith

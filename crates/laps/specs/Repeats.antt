@@ -15,7 +15,8 @@ use Rattle.moves.specs.declared.Verdict.{Verdict}
 use Rattle.moves.specs.First.{first}
 use Rattle.rules.specs.Answers.{rowOf, entryLines}
 use Rattle.moves.specs.Move.{after}
-use Rattle.laps.specs.Endless.{markingAt, verdictAt, DueAt, DoneAt, ExcludedAt, GoesOn, Accepting, Waiting, Starving}
+use Rattle.laps.specs.Endless.{markingAt, DueAt, DoneAt, ExcludedAt, Accepting, Waiting, Starving}
+use Rattle.laps.specs.Inner.{verdictAt, Unbarred}
 use Rattle.laps.specs.Legs.{done-between, Ends, Kept}
 
 module _ (g : Graph) (m : Marking) (e : ℕ → Entry) where
@@ -114,7 +115,7 @@ module _ (g : Graph) (m : Marking) (e : ℕ → Entry) where
             (r .0, r .1, r .2, record { marking = f .marking ∙ r .3 .marking; entry = f .entry ∙ r .3 .entry })
 
     -- allowed through the first period: allowed for ever
-    pub for-ever : ((i : ℕ) → i < b + l → says i ≡ Verdict.Clear) → GoesOn g m e
+    pub for-ever : ((i : ℕ) → i < b + l → says i ≡ Verdict.Clear) → Unbarred g m e
     for-ever h i = go (decLt i b)
       where
         go : Dec (i < b) → says i ≡ Verdict.Clear

@@ -1,5 +1,5 @@
 -- The decision is the answer for the infinite run. Assumes nothing.
-use Prim.Native.Nat.{ℕ, zero, suc, _+_, _*_, _^_, _≤_, _<_}
+use Prim.Native.Nat.{ℕ, _+_, _*_, _^_, _≤_, _<_}
 use mathlib.Core.Path.{_≡_, refl, sym, ap, _∙_, subst}
 use mathlib.Core.Logic.{_⊎_, inl, inr}
 use mathlib.Core.List.{List, _++_}
@@ -11,23 +11,24 @@ use borrow.Author.Tests.{ltb-true, lt-ltb, eqb-false, not-false}
 use Rattle.sets.specs.Sets.{has, empty, full, lowest}
 use Rattle.sets.specs.Truth.{and-right}
 use Rattle.sets.specs.Laws.{has-full, has-above, lt-of-members, lowest-least, lowest-has, empty-members}
-use Rattle.rules.specs.Graph.{Graph, graphLines}
+use Rattle.rules.specs.Graph.{Graph, graphLines, graphVerdict}
+use Rattle.rules.specs.Laws.{clear-counts}
+use native.Mathlib.Nat.{lt-trans}
 use Rattle.moves.specs.declared.Marking.{Marking}
 use Rattle.moves.specs.declared.Entry.{Entry}
 use Rattle.moves.specs.declared.Verdict.{Verdict}
 use Rattle.moves.specs.First.{first}
-use Rattle.rules.specs.Answers.{known, markingLines}
+use Rattle.rules.specs.Answers.{markingLines}
 use Rattle.moves.specs.Move.{markingFits}
 use Rattle.moves.specs.Given.{clear-head, clear-tail, clear-front, clear-back}
-use Rattle.rules.specs.Sound.{Sound, clear-sound, after-inside}
 use Rattle.moves.specs.Inside.{Inside, fits-inside}
-use Rattle.rules.specs.Entries.{known-step}
 use Rattle.journal.specs.Journal.{entries, lengthFits}
 use Rattle.journal.specs.Laws.{fits-threes, entries-length}
 use Rattle.laps.specs.declared.Lapped.{Lapped}
 use Rattle.laps.specs.declared.Pass.{Pass}
 use Rattle.laps.specs.declared.inner.Leg.{Leg}
-use Rattle.laps.specs.Endless.{stepAt, markingAt, verdictAt, DueAt, GoesOn}
+use Rattle.laps.specs.Endless.{GoesOn, markingAt, DueAt}
+use Rattle.laps.specs.Inner.{verdictAt, Unbarred, inside-until, moves-at, refuses-at}
 use Rattle.laps.specs.Laps.{runOf, indexAt, passAt, numberOfPass, lengthsLines, emptyLines, lapLines, LapAnswer}
 use Rattle.laps.specs.Decision.{legOf, upon, judged, secondLap, firstLap, decision}
 use Rattle.laps.specs.Legs.{Kept, Passed, Barred, leg-tells}
@@ -37,21 +38,16 @@ use Rattle.laps.specs.Ways.{upon-ended, upon-stopped}
 
 -- ---- markings within the graph
 
-module _ (g : Graph) (m : Marking) (e : ℕ → Entry) (sound : Sound g) (inside : Inside (g .steps) m) where
-  inside-at : (i : ℕ) → GoesOn g m e → Inside (g .steps) (markingAt g m e i)
-  unfolding markingAt
-  inside-at zero on = inside
-  inside-at (suc i) on = after-inside g (markingAt g m e i) (e i .person) (stepAt g m e i) sound (known-step g (e i) (not-false (known g (e i)) (clear-head _ _ (on i)))) (inside-at i on)
-
+module _ (g : Graph) (m : Marking) (e : ℕ → Entry) (clear : graphVerdict g ≡ Verdict.Clear) (inside : Inside (g .steps) m) where
   -- a step that is due is one of 64
-  due-known : GoesOn g m e → (i s : ℕ) → DueAt g m e i s → has (full 64) s ≡ true
+  due-known : Unbarred g m e → (i s : ℕ) → DueAt g m e i s → has (full 64) s ≡ true
   due-known on i s due = has-full 64 s ∙ lt-ltb s 64 (go (decLt s 64))
     where
       go : Dec (s < 64) → s < 64
       go (yes h) = h
       go (no h) =
-          let most : g .steps ≤ 64 = sound .counted .steps-most in
-          absurd (true≢false (sym due ∙ has-above (g .steps) (markingAt g m e i .due) s (inside-at i on .due-in) (let z : g .steps ≤ s = omega arith in z)))
+          let most : g .steps ≤ 64 = clear-counts g clear .steps-most in
+          absurd (true≢false (sym due ∙ has-above (g .steps) (markingAt g m e i .due) s (inside-until g m e clear inside i (λ j h. on j) .due-in) (let z : g .steps ≤ s = omega arith in z)))
 
 -- ---- the decision
 
@@ -66,13 +62,13 @@ module _ (g : Graph) (m : Marking) (stem lap : List ℕ) where
   e i = runOf S L i
 
   module _ (clear : first (lapLines g m stem lap) ≡ Verdict.Clear) where
-    sound : Sound g
-    sound = clear-sound g (clear-front (graphLines g) (lengthsLines stem lap ++ markingLines g m ++ emptyLines lap) clear)
+    pub sound : graphVerdict g ≡ Verdict.Clear
+    sound = (clear-front (graphLines g) (lengthsLines stem lap ++ markingLines g m ++ emptyLines lap) clear)
 
     lines : first (lengthsLines stem lap ++ markingLines g m ++ emptyLines lap) ≡ Verdict.Clear
     lines = clear-back (graphLines g) (lengthsLines stem lap ++ markingLines g m ++ emptyLines lap) clear
 
-    inside : Inside (g .steps) m
+    pub inside : Inside (g .steps) m
     inside = fits-inside (g .steps) m (not-false (markingFits (g .steps) m) (clear-head _ _ (clear-tail _ _ lines)))
 
     pub some : 0 < length L
@@ -110,7 +106,7 @@ module _ (g : Graph) (m : Marking) (stem lap : List ℕ) where
     unfolding LapAnswer
     stopped-right i n p leg rest b all x y =
         subst (LapAnswer g m stem lap) (sym (upon-stopped leg p rest (0 + b .depth) (b .refusal) (b .is)))
-        (clear, record { position = i + b .depth; refused = record { before = before; here = b .here }; index = (let z : 0 + b .depth ≡ b .depth = omega arith in z) ∙ sym x; pass = sym y })
+        (clear, record { position = i + b .depth; refused = record { before = λ j h. moves-at g m e sound inside j (λ k l. before k (lt-trans l h)) (before j h); here = refuses-at g m e sound inside (i + b .depth) (b .refusal) before (b .here) }; index = (let z : 0 + b .depth ≡ b .depth = omega arith in z) ∙ sym x; pass = sym y })
       where
         before : Until (i + b .depth)
         before j h = go (decLt j i)
@@ -120,7 +116,7 @@ module _ (g : Graph) (m : Marking) (stem lap : List ℕ) where
             go (no l) = b .before j (let z : i ≤ j = omega arith in z) h
 
     -- what is left of the second lap decides
-    judged-right : GoesOn g m e → (x : ℕ) → Kept g m e b₂ (length L) (full 64) x → LapAnswer g m stem lap (judged x)
+    judged-right : Unbarred g m e → (x : ℕ) → Kept g m e b₂ (length L) (full 64) x → LapAnswer g m stem lap (judged x)
     unfolding LapAnswer
     judged-right on x kept = go (empty x) refl
       where
@@ -131,13 +127,16 @@ module _ (g : Graph) (m : Marking) (stem lap : List ℕ) where
             at s h true q = absurd (let low : s < 64 = ltb-true s 64 (sym (has-full 64 s) ∙ kept .only s q .0) in let z : ⊥ = omega arith in z)
             at s h false q = q
 
+        goes : GoesOn g m e
+        goes i = moves-at g m e sound inside i (λ j h. on j) (on i)
+
         decides : Decides g m e x
         decides = second-decides S L some g m (full 64) x kept (due-known g m e sound inside on)
 
         go : (b : Bool) → empty x ≡ b → LapAnswer g m stem lap (cond b Lapped.Accepted (Lapped.Starved (record { 0 = lowest 64 x })))
-        go true q = (clear, on, decides .accepting (empty-members x q))
+        go true q = (clear, goes, decides .accepting (empty-members x q))
         go false q =
-            (clear, on, record { starving = decides .starving (lowest 64 x) (lowest-has 64 x in-64 (eqb-false x 0 q)); lowest = λ t h. decides .others t (lowest-least 64 x .none t h) })
+            (clear, goes, record { starving = decides .starving (lowest 64 x) (lowest-has 64 x in-64 (eqb-false x 0 q)); lowest = λ t h. decides .others t (lowest-least 64 x .none t h) })
 
     second-right : (x : Marking) → x ≡ markingAt g m e b₂ → Until b₂ → LapAnswer g m stem lap (secondLap g x L)
     unfolding secondLap numberOfPass
