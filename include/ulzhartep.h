@@ -34,6 +34,7 @@
 extern "C" {
 #endif
 
+/* The version of these declarations. */
 #define ULZ_VERSION_MAJOR 1
 #define ULZ_VERSION_MINOR 0
 #define ULZ_VERSION_PATCH 0
@@ -108,9 +109,9 @@ typedef struct ulz_marking {
 
 /* A person takes a step in a role. In a journal an entry is the same three bytes. */
 typedef struct ulz_entry {
-    uint8_t person;
-    uint8_t step;
-    uint8_t role;
+    uint8_t person; /* who */
+    uint8_t step;   /* takes which step */
+    uint8_t role;   /* in which role */
 } ulz_entry;
 
 /*
@@ -131,9 +132,9 @@ typedef struct ulz_graph {
 
 /* Where a tracker is: see "The tracker". */
 typedef struct ulz_track {
-    ulz_marking marking;
-    uint64_t rank; /* 1 to steps; the rank of step s is s + 1 */
-    uint64_t flag; /* in an answer 1 is up and 0 is down */
+    ulz_marking marking; /* the state of the job */
+    uint64_t rank;       /* 1 to steps; the rank of step s is s + 1 */
+    uint64_t flag;       /* in an answer 1 is up and 0 is down */
 } ulz_track;
 
 /* What a journal does, whatever the marking is: see "Records". */
@@ -152,10 +153,15 @@ typedef struct ulz_record {
 /*
  * ---- Answers ----
  *
- * In all of them number is one of those above. With ULZ_WAITS the field waiting is the lowest step that is waited for, with every
- * other number it is 0. From ULZ_UNKNOWN to ULZ_NOT_APPLIED (11 to 16) the marking or track is what was handed in, but ulz_run and
- * ulz_restore tell with 11 to 15 the marking before the entry that was refused. What else an answer has is 0 with every number but
- * ULZ_ANSWERED, where its field does not say otherwise.
+ * Every answer has a number, one of those above. All but three have
+ *
+ *     waiting   with ULZ_WAITS the lowest step that is waited for, with every other number 0
+ *
+ * With any number but ULZ_ANSWERED the other fields are 0, except that
+ *
+ *     with 11 to 16 the marking or track is what was handed in,
+ *     with 11 to 15 ulz_run and ulz_restore give the marking before the refused entry, and its index in entries,
+ *     with 11 to 15 ulz_lap gives index and pass of the refused entry.
  */
 
 /* Of ulz_finished. */
@@ -181,7 +187,7 @@ typedef struct ulz_kept {
 typedef struct ulz_ran {
     uint64_t number;
     uint64_t waiting;
-    uint64_t entries;    /* how many entries passed: all, or with 11 to 15 the index from 0 of the one that was refused */
+    uint64_t entries;    /* how many passed: all, or with 11 to 15 those before the refused one, which is its index from 0 */
     ulz_marking marking; /* the marking after those that passed */
 } ulz_ran;
 
@@ -228,16 +234,16 @@ typedef struct ulz_written {
  *     due        loses the step, then gains responses[step]: a step that is its own response is due again
  */
 
-/* Is this a graph? Gives the number alone: 2, 4, 6. */
+/* Is this a graph? The answer is the number alone. Numbers: 2, 4, 6. */
 uint64_t ulz_check(const ulz_graph *graph);
 
-/* The entry at this marking: 2, 4, 6, 8, 11 to 15. */
+/* Takes a step. Numbers: 2, 4, 6, 8, 11 to 15. */
 ulz_moved ulz_take(const ulz_graph *graph, ulz_marking marking, ulz_entry entry);
 
-/* Is the job finished, with no step at once due and included? 2, 4, 6, 8. */
+/* Is the job finished, with no step at once due and included? Numbers: 2, 4, 6, 8. */
 ulz_ending ulz_finished(const ulz_graph *graph, ulz_marking marking);
 
-/* As ulz_take, but an allowed entry changes the marking where it lies: 2, 4, 6, 8, 11 to 15. */
+/* As ulz_take, but an allowed entry changes the marking where it lies. Numbers: 2, 4, 6, 8, 11 to 15. */
 ulz_kept ulz_keep(const ulz_graph *graph, ulz_marking *marking, ulz_entry entry);
 
 /*
@@ -246,12 +252,12 @@ ulz_kept ulz_keep(const ulz_graph *graph, ulz_marking *marking, ulz_entry entry)
  * A journal is bytes, three for each entry: person, step, role. It may be empty.
  */
 
-/* The entries one after the other, until one is not allowed: 2, 4, 6, 7, 8, 11 to 15. */
+/* Takes the entries one after the other, until one is not allowed. Numbers: 2, 4, 6, 7, 8, 11 to 15. */
 ulz_ran ulz_run(const ulz_graph *graph, ulz_marking marking, const uint8_t *journal, size_t length);
 
 /*
- * The entry at a place: 7. The first is at place 0. A journal of k entries has them at places 0 to k - 1 and ends from place k
- * on: every such place says ended. To walk a journal, begin at 0 and add 1 until it has ended.
+ * The entry at a place. A journal of k entries has them at places 0 to k - 1, and from place k on every place is its end. To walk
+ * a journal, begin at 0 and add 1 until it has ended. Numbers: 7, at every place of a journal of such a length.
  */
 ulz_walked ulz_walk(const uint8_t *journal, size_t length, uint64_t place);
 
@@ -279,8 +285,8 @@ ulz_walked ulz_walk(const uint8_t *journal, size_t length, uint64_t place);
  *         in_set    in_clear
  *         due_set   due_clear
  *
- * Two journals that do the same have the same record. The empty journal has the record of zeros, which changes nothing. n is not
- * stored: a record for 3 steps is one for 5 steps as well.
+ * Journals that do the same at every marking have the same record. The empty journal has the record of zeros, which changes
+ * nothing. n is not stored: a record for 3 steps is one for 5 steps as well.
  *
  * Its bytes: never is byte 0, then come the eight sets in the order of ulz_record, 8 bytes each, the lowest byte first.
  *
@@ -289,27 +295,28 @@ ulz_walked ulz_walk(const uint8_t *journal, size_t length, uint64_t place);
  */
 
 /*
- * The record of a journal: 2, 4, 6, 7. No entry is refused here: one that no marking could allow (a number beyond the counts, a
- * role not held or not on the step, a step that the journal itself has excluded and not included since) makes the record never.
+ * The record of a journal. No entry is refused here: one that no marking could allow (a number beyond the counts, a role not held
+ * or not on the step, a step that the journal itself has excluded and not included since) makes the record never. Numbers: 2, 4,
+ * 6, 7.
  */
 uint64_t ulz_fold(const ulz_graph *graph, const uint8_t *journal, size_t length, uint8_t out[65]);
 
-/* The record of a and then b, both of n steps: 2, 10. */
+/* The record of a and then b, for n steps. Numbers: 2, 10. */
 uint64_t ulz_join(uint64_t n, const uint8_t *a, size_t a_length, const uint8_t *b, size_t b_length, uint8_t out[65]);
 
-/* What a record of n steps makes of a marking: 2, 8, 10, 16. */
+/* What a record makes of a marking of n steps. Numbers: 2, 8, 10, 16. */
 ulz_moved ulz_apply(uint64_t n, const uint8_t *record, size_t length, ulz_marking marking);
 
-/* The record in these bytes, for n steps: 2, 10. */
+/* The record in these bytes, for n steps. Numbers: 2, 10. */
 uint64_t ulz_record_read(uint64_t n, const uint8_t *bytes, size_t length, ulz_record *record);
 
-/* The bytes of a record of n steps, into a room of some length: 2, 10, 18. The length written is 65. */
+/* Writes the 65 bytes of a record for n steps into a room of this length. Numbers: 2, 10, 18. */
 ulz_written ulz_record_write(uint64_t n, const ulz_record *record, uint8_t *room, size_t length);
 
 /*
- * Goes on from a record: applies it to the marking, then runs the rest of the journal whose beginning it stands for. 2, 4, 6, 7,
- * 8, 10, then 16, then 11 to 15 of the earliest entry that is not allowed. Index and number of entries are those of the rest.
- * With 16 the marking is the one handed in and entries is 0.
+ * Goes on from a record: applies it to the marking, then runs the rest of the journal whose beginning it stands for. The entries
+ * are those of the rest. Numbers, in this order: 2, 4, 6, 7, 8, 10, then 16, then 11 to 15 of the earliest entry that is not
+ * allowed. With 16 the marking is the one handed in, and entries is 0.
  */
 ulz_ran ulz_restore(const ulz_graph *graph, const uint8_t *record, size_t record_length, const uint8_t *journal,
                     size_t length, ulz_marking marking);
@@ -349,12 +356,12 @@ ulz_ran ulz_restore(const ulz_graph *graph, const uint8_t *record, size_t record
  */
 
 /*
- * Reads a sheet: 1 to 6. Graph and marking are written whole, the rows beyond the counts with 0; with any other number than 0
- * both stay as they were.
+ * Reads a sheet. Graph and marking are written whole, the rows beyond the counts with 0; with any number but ULZ_ANSWERED both stay
+ * as they were. Numbers: 1 to 6.
  */
 uint64_t ulz_read(const uint8_t *sheet, size_t length, ulz_graph *graph, ulz_marking *marking);
 
-/* Writes the sheet of a graph and a marking into a room of some length: 2, 4, 6, 18. ULZ_SHEET_BYTES is always room enough. */
+/* Writes a sheet into a room of this length; ULZ_SHEET_BYTES are always enough. Numbers: 2, 4, 6, 18. */
 ulz_written ulz_write(const ulz_graph *graph, ulz_marking marking, uint8_t *room, size_t length);
 
 /*
@@ -366,8 +373,8 @@ ulz_written ulz_write(const ulz_graph *graph, ulz_marking marking, uint8_t *room
  */
 
 /*
- * The verdict: 2, 4, 6, 7, 8, then 17, then 11 to 15 of the earliest entry that is not allowed. 7 is said of either journal. The
- * stem may be empty. There is no marking in the answer.
+ * Judges a stem and a lap. The stem may be empty. Numbers, in this order: 2, 4, 6, 7 (of either journal), 8, then 17, then 11 to 15
+ * of the earliest entry that is not allowed.
  */
 ulz_lapped ulz_lap(const ulz_graph *graph, ulz_marking marking, const uint8_t *stem, size_t stem_length,
                    const uint8_t *lap, size_t lap_length);
@@ -388,13 +395,13 @@ ulz_lapped ulz_lap(const ulz_graph *graph, ulz_marking marking, const uint8_t *s
  * In all other cases the flag is 0. The flag that is handed in may have any value and counts for nothing.
  */
 
-/* The tracker at the beginning of a job: 2, 4, 6, 8. */
+/* The tracker at the beginning of a job. Numbers: 2, 4, 6, 8. */
 ulz_tracked ulz_track_start(const ulz_graph *graph, ulz_marking marking);
 
-/* A while in which nothing is done: 2, 4, 6, 8, 9. */
+/* A while in which nothing is done. Numbers: 2, 4, 6, 8, 9. */
 ulz_tracked ulz_track_idle(const ulz_graph *graph, ulz_track track);
 
-/* The entry at the track's marking, and the tracker goes along: 2, 4, 6, 8, 9, 11 to 15. */
+/* Takes a step at the track's marking, and the tracker goes along. Numbers: 2, 4, 6, 8, 9, 11 to 15. */
 ulz_tracked ulz_track_step(const ulz_graph *graph, ulz_track track, ulz_entry entry);
 
 #ifdef __cplusplus
