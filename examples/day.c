@@ -7,81 +7,91 @@
 
 #include "ulzhartep.h"
 
-static const uint8_t reboot[3] = {0, 0, 0}, check[3] = {0, 1, 0}, publish[3] = {1, 2, 1};
+static const ulz_entry reboot = {0, 0, 0}, publish = {1, 2, 1};
 
-static const char *words(uint64_t number) {
-    switch (number) {
-    case 14: return "the step is not included";
-    case 15: return "the step waits";
-    default: return "ulzhartep.h says what the number means";
-    }
-}
+/* The journals of the day. */
+static const uint8_t rebooted[3] = {0, 0, 0}, checked[3] = {0, 1, 0}, published[3] = {1, 2, 1};
 
-/* The answer, which has this number: nothing else would be this day. */
-static uint64_t expect(uint64_t number, uint64_t answer) {
-    if (ULZ_NUMBER(answer) != number) {
-        fprintf(stderr, "answered %d: %s\n", (int)ULZ_NUMBER(answer), words(ULZ_NUMBER(answer)));
+/* Nothing but this number would be this day. */
+static void expect(uint64_t expected, uint64_t number) {
+    if (number != expected) {
+        fprintf(stderr, "answered %d: %s\n", (int)number, ulz_text(number));
         exit(EXIT_FAILURE);
     }
-    return answer;
 }
 
-static uint64_t take(const ulz_graph *g, uint64_t marking[3], const uint8_t entry[3]) {
-    return ulz_graph_take(g, marking, entry[0], entry[1], entry[2]);
-}
-
-static void print_marking(const char *when, const uint64_t marking[3]) {
-    static const char *const names[3] = {"done", "due", "included"};
-    printf("%s:", when);
-    for (int set = 0; set < 3; set++) {
-        printf("%s %s {", set == 0 ? "" : ",", names[set]);
-        const char *between = "";
-        for (int step = 0; step < 64; step++) {
-            if (marking[set] >> step & 1) {
-                printf("%s%d", between, step);
-                between = ", ";
-            }
+static void print_set(const char *name, uint64_t set) {
+    const char *between = "";
+    printf("%s {", name);
+    for (int step = 0; step < 64; step++) {
+        if (set >> step & 1) {
+            printf("%s%d", between, step);
+            between = ", ";
         }
-        printf("}");
     }
+    printf("}");
+}
+
+static void print_marking(const char *when, ulz_marking marking) {
+    printf("%s: ", when);
+    print_set("done", marking.done);
+    print_set(", due", marking.due);
+    print_set(", included", marking.included);
     printf("\n");
 }
 
-int main(void) {
+static ulz_graph job(void) {
     ulz_graph g = {0};
     g.steps = 3, g.people = 2, g.roles = 2;
-    g.allows[0] = 1 | 2, g.allows[1] = 1, g.allows[2] = 2;
-    g.holds[0] = 1, g.holds[1] = 2;
     g.conditions[2] = 1 << 1; /* publish waits for the check */
     g.responses[0] = 1 << 1;  /* a reboot makes the check due */
     g.includes[1] = 1 << 2;   /* the check includes publishing, */
     g.excludes[0] = 1 << 2;   /* which a reboot excludes */
-    expect(0, ulz_graph_check(&g));
+    g.allows[0] = 1 | 2, g.allows[1] = 1, g.allows[2] = 2;
+    g.holds[0] = 1, g.holds[1] = 2;
+    return g;
+}
 
-    const uint64_t start[3] = {0, 0, 7};
-    uint64_t marking[3] = {start[0], start[1], start[2]};
-    expect(0, take(&g, marking, reboot));
+int main(void) {
+    const ulz_graph g = job();
+    const ulz_marking start = {0, 0, 7};
+    expect(ULZ_ANSWERED, ulz_check(&g));
+
+    ulz_moved moved = ulz_take(&g, start, publish);
+    expect(ULZ_WAITS, moved.number);
+    printf("publish: refused with %d, %s: %d\n", (int)moved.number, ulz_text(moved.number), (int)moved.waiting);
+
+    ulz_marking marking = start;
+    expect(ULZ_ANSWERED, ulz_keep(&g, &marking, reboot).number);
     print_marking("rebooted", marking);
-
-    uint64_t refused = expect(14, take(&g, marking, publish));
-    printf("publish: refused with %d, %s\n", (int)ULZ_NUMBER(refused), words(ULZ_NUMBER(refused)));
+    ulz_kept kept = ulz_keep(&g, &marking, publish);
+    expect(ULZ_EXCLUDED, kept.number);
+    printf("publish: refused with %d, %s\n", (int)kept.number, ulz_text(kept.number));
 
     uint8_t record[ULZ_RECORD_BYTES];
-    expect(0, ulz_graph_fold(&g, reboot, sizeof reboot, record));
-    printf("folded: %d bytes of journal\n", (int)sizeof reboot);
+    expect(ULZ_ANSWERED, ulz_fold(&g, rebooted, sizeof rebooted, record));
+    printf("folded: %d bytes of journal\n", (int)sizeof rebooted);
 
     /* From here on only the record knows of the reboot. */
-    uint64_t kept[3] = {start[0], start[1], start[2]};
-    refused = expect(14, ulz_graph_restore(&g, record, sizeof record, publish, sizeof publish, kept));
-    printf("restored, publish: refused with %d at entry %d, %s\n", (int)ULZ_NUMBER(refused), (int)ULZ_INDEX(refused),
-           words(ULZ_NUMBER(refused)));
-    uint64_t answer = expect(0, ulz_graph_restore(&g, record, sizeof record, check, sizeof check, kept));
-    printf("restored, check: %d entry taken\n", (int)ULZ_INDEX(answer));
-    print_marking("checked", kept);
+    ulz_ran ran = ulz_restore(&g, record, sizeof record, published, sizeof published, start);
+    expect(ULZ_EXCLUDED, ran.number);
+    printf("restored, publish: refused with %d at entry %d, %s\n", (int)ran.number, (int)ran.entries, ulz_text(ran.number));
+    print_marking("before that entry", ran.marking);
+    ran = ulz_restore(&g, record, sizeof record, checked, sizeof checked, start);
+    expect(ULZ_ANSWERED, ran.number);
+    printf("restored, check: %d entry taken\n", (int)ran.entries);
+    print_marking("checked", ran.marking);
 
-    expect(0, take(&g, kept, publish));
-    print_marking("published", kept);
-    answer = expect(0, ulz_graph_finished(&g, kept));
-    printf("finished: %s\n", ULZ_VALUE(answer) == 1 ? "yes" : "no");
+    moved = ulz_take(&g, ran.marking, publish);
+    expect(ULZ_ANSWERED, moved.number);
+    print_marking("published", moved.marking);
+    ulz_ending ending = ulz_finished(&g, moved.marking);
+    expect(ULZ_ANSWERED, ending.number);
+    printf("finished: %s\n", ending.finished ? "yes" : "no");
+
+    ulz_lapped lapped = ulz_lap(&g, start, checked, sizeof checked, rebooted, sizeof rebooted);
+    expect(ULZ_ANSWERED, lapped.number);
+    if (lapped.verdict == ULZ_STARVED)
+        printf("rebooting for ever: starves step %d\n", (int)lapped.step);
     return EXIT_SUCCESS;
 }

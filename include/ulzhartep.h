@@ -1,63 +1,28 @@
 /*
- * Ulzhartep, the procedure box: the border to C.
+ * Ulzhartep, the procedure box: its library for C and C++.
  *
- * Steps, people and roles are numbered from 0. A set is a number: its member s is bit s.
+ * A job is a graph of steps. People take steps in roles; some steps wait for others, and taking one makes others due, includes
+ * them or excludes them. The library says whether an entry (a person, a step, a role) is allowed at a marking and what becomes of
+ * the marking; it runs journals of entries, folds them into records of 65 bytes, and reads and writes jobs as sheets.
  *
- * A graph is lent as three counts and six arrays:
+ * Steps, people and roles are numbered from 0. A set is a word: number s is in it where bit s is 1, UINT64_C(1) << s.
  *
- *     steps, people, roles   how many there are: 1 to 64, 1 to 16, 1 to 16
- *     allows[s]              the roles of step s
- *     holds[p]               the roles that person p holds
- *     conditions[b]          the steps that b waits for: each that is included must have been done before b
- *     responses[a]           the steps that doing a makes due
- *     includes[a]            the steps that doing a includes
- *     excludes[a]            the steps that doing a excludes
+ *     ulz_graph g = {0};                      in C++: ulz_graph g = {};
+ *     ulz_marking m;
+ *     if (ulz_read(sheet, length, &g, &m) == ULZ_ANSWERED) {
+ *         ulz_entry e = {person, step, role};
+ *         ulz_moved moved = ulz_take(&g, m, e);
+ *         if (moved.number != ULZ_ANSWERED)
+ *             puts(ulz_text(moved.number));
+ *     }
  *
- * Rows at or beyond the counts are 0. No pair (a, b) is both include and exclude.
+ * Any values may be handed over. Every call looks at all that it is given, the graph included, and answers with ULZ_ANSWERED or
+ * with one of the numbers below; there is no other kind of failure.
  *
- * A marking is three sets of steps: marking[0] is Ex (done before), marking[1] is Re (due), marking[2] is In (included).
- *
- * A journal is a run of entries of 3 bytes: person, step, role. It has at most 65,535 bytes, that is 21,845 entries.
- *
- * A record is what a journal folds to, for a stated number of steps n, 1 to 64. It has 65 bytes: never (0 or 1), then eight sets
- * of 8 bytes, lowest byte first: NeedIn, NeedEx, NeedOutOrEx, Done, DueSet, DueClear, InSet, InClear. As words it is never and
- * the eight sets, words[0] to words[8]. It applies to a marking when never is 0, NeedIn is within In, NeedEx is within Ex, and
- * each step of NeedOutOrEx that is in In is in Ex. Then Ex gains Done, Re loses DueClear and gains DueSet, In loses InClear and
- * gains InSet.
- *
- * A sheet is a graph and its first marking in bytes, 57 to 37,077 of them.
- *
- * Any values may be handed over; each call checks what it is given. An answer is made of parts, and a part that a call does not
- * speak of is 0:
- *
- *     ULZ_NUMBER   bits 0 to 7     0 when the call is answered, otherwise the lowest number that holds
- *     ULZ_VALUE    bits 8 to 15    a step, or what was asked
- *     ULZ_INDEX    bits 16 to 31   which entry, how many entries or bytes, or a rank
- *     ULZ_PASS     bits 32 to 39   in which pass of a lap
- *
- *      1   the sheet is under 29 bytes or over 37,077, or its byte 0, its contents or the length of body 1, 2 or 5 is wrong
- *      2   steps not 1..64, people or roles not 1..16
- *      3   body 3 or 4 of the sheet does not match the counts
- *      4   a set of the graph, or the sheet's marking (read or to be written), names something beyond the counts, or something
- *          is stored for a number beyond them
- *      5   an arrow of the sheet has a kind above 3 or an unknown step, or the arrows do not ascend
- *      6   a pair both includes and excludes
- *      7   the length of a journal is not a multiple of 3, or over 65,535
- *      8   any other marking names a step beyond the graph
- *      9   the tracker's rank is outside 1..steps
- *     10   a record is not well-formed, or not 65 bytes, or never is above 1
- *     11   the entry names an unknown person, step or role
- *     12   the person does not hold the role
- *     13   the step does not have the role
- *     14   the step is not included
- *     15   the step waits; the value is the lowest waiting condition
- *     16   the record does not apply
- *     17   the lap is empty
- *     18   the room for output is too short
- *
- * Arrays are lent for the time of the call and are only read where they are const. They have the lengths that are written here;
- * bytes whose length varies go as a pointer, which is not null, and that length. What is not const must not overlap anything
- * else that is lent, and is written only where the number is 0. Nothing is allocated or kept, so calls may run at the same time.
+ * What a pointer lends is lent for the time of the call. Where it points to const it is only read; everything else is written
+ * only if the call is answered, must not overlap anything else that is lent, and keeps its bytes beyond what is written. Bytes of
+ * any number go as a pointer and their length; no pointer is null, not even with a length of 0. Nothing is allocated and nothing
+ * is kept, so calls may run at the same time.
  */
 #ifndef ULZHARTEP_H
 #define ULZHARTEP_H
@@ -69,287 +34,375 @@
 extern "C" {
 #endif
 
-/* The parts of an answer. */
-#define ULZ_NUMBER(answer) ((uint64_t)(answer) % 256)
-#define ULZ_VALUE(answer) ((uint64_t)(answer) / 256 % 256)
-#define ULZ_INDEX(answer) ((uint64_t)(answer) / 65536 % 65536)
-#define ULZ_PASS(answer) ((uint64_t)(answer) / 4294967296 % 256)
+/* The version of these declarations. */
+#define ULZ_VERSION_MAJOR 1
+#define ULZ_VERSION_MINOR 0
+#define ULZ_VERSION_PATCH 0
 
-/* The parts of a walk's answer where its value is 1. */
-#define ULZ_PERSON(answer) ((uint64_t)(answer) / 65536 % 256)
-#define ULZ_STEP(answer) ((uint64_t)(answer) / 16777216 % 256)
-#define ULZ_ROLE(answer) ((uint64_t)(answer) / 4294967296 % 256)
-
-#define ULZ_JOURNAL_BYTES 65535
-#define ULZ_RECORD_BYTES 65
-#define ULZ_SHEET_BYTES 37077
-
-/* The nine parameters of a graph, which most calls begin with. */
-#define ULZ_GRAPH \
-    uint8_t steps, uint8_t people, uint8_t roles, \
-    const uint16_t allows[64], const uint16_t holds[16], \
-    const uint64_t conditions[64], const uint64_t responses[64], \
-    const uint64_t includes[64], const uint64_t excludes[64]
-
-/* ---- Rules ---- */
+#define ULZ_JOURNAL_BYTES 65535 /* the longest journal: 21,845 entries */
+#define ULZ_RECORD_BYTES 65     /* every record */
+#define ULZ_SHEET_BYTES 37077   /* the longest sheet */
+#define ULZ_SHEET_LEAST 57      /* the shortest sheet that is read: one step, one person, one role, no arrow */
 
 /*
- * Is the graph well-formed?
- *
- *     0         it is
- *     2, 4, 6   it is not
+ * The numbers. Each call names those that it can give. It gives the lowest that holds; for a journal that is the lowest of the
+ * earliest entry that is not allowed. Two calls keep another order: ulz_restore asks for ULZ_NOT_APPLIED, and ulz_lap for
+ * ULZ_EMPTY_LAP, after all numbers up to ULZ_ILL_FORMED and before any entry is looked at.
  */
-uint64_t ulz_check(ULZ_GRAPH);
+enum {
+    ULZ_ANSWERED = 0,     /* nothing is against it */
+    ULZ_LAYOUT = 1,       /* not laid out as a sheet: see "Sheets" */
+    ULZ_COUNTS = 2,       /* steps or n outside 1 to 64, people or roles outside 1 to 16 */
+    ULZ_BODIES = 3,       /* the sheet has not 2 bytes for each step, or not 2 bytes for each person */
+    ULZ_BEYOND = 4,       /* a step or role at or beyond its count: in a set of the graph, or in the marking of a sheet that is
+                             read or written; or a row at or beyond its count that is not 0 */
+    ULZ_ARROWS = 5,       /* an arrow of the sheet is of no kind, has a step at or beyond the count, or is out of order */
+    ULZ_BOTH = 6,         /* includes[a] and excludes[a] have a step in common */
+    ULZ_LENGTH = 7,       /* the bytes of a journal are no multiple of 3, or more than ULZ_JOURNAL_BYTES */
+    ULZ_OUTSIDE = 8,      /* a marking, other than a sheet's, has a step at or beyond the count of steps */
+    ULZ_NO_RANK = 9,      /* a track's rank is outside 1 to steps */
+    ULZ_ILL_FORMED = 10,  /* not a well-formed record for so many steps, or not 65 bytes: see "Records" */
+    ULZ_UNKNOWN = 11,     /* the entry's person, step or role is at or beyond its count */
+    ULZ_NOT_HELD = 12,    /* the entry's person lacks the role */
+    ULZ_NOT_ON_STEP = 13, /* the entry's step cannot be taken in the role */
+    ULZ_EXCLUDED = 14,    /* the entry's step is not included at present */
+    ULZ_WAITS = 15,       /* the entry's step waits for another, whose number stands in the answer's field waiting */
+    ULZ_NOT_APPLIED = 16, /* the record is never, or the marking lacks what it needs */
+    ULZ_EMPTY_LAP = 17,   /* the lap has no entry */
+    ULZ_ROOM = 18         /* the room is shorter than what would be written */
+};
+
+/* A number in words, without an end of line. */
+static inline const char *ulz_text(uint64_t number) {
+    static const char *const texts[] = {
+        "answered",
+        "not laid out as a sheet",
+        "a count is out of range",
+        "the role sets of the sheet do not fit its counts",
+        "a set names something that the counts do not have",
+        "an arrow of the sheet is wrong or out of order",
+        "a step includes and excludes the same step",
+        "a journal of such a length cannot be",
+        "the marking has a step that the graph does not have",
+        "no step has this rank",
+        "the record is not well-formed",
+        "no such person, step or role",
+        "the person does not hold this role",
+        "the step does not have this role",
+        "the step is not included",
+        "the step waits for another",
+        "the record does not apply to the marking",
+        "the lap is empty",
+        "there is too little room",
+    };
+    return number < sizeof texts / sizeof texts[0] ? texts[number] : "no number of this library";
+}
+
+/* ---- What is handed over ---- */
+
+/* The state of a job: three sets of steps. */
+typedef struct ulz_marking {
+    uint64_t done;     /* has been done at least once (Ex) */
+    uint64_t due;      /* has to be done once more (Re); this stays while the step is excluded */
+    uint64_t included; /* takes part at present (In) */
+} ulz_marking;
+
+/* A person takes a step in a role. In a journal an entry is the same three bytes. */
+typedef struct ulz_entry {
+    uint8_t person; /* who */
+    uint8_t step;   /* takes which step */
+    uint8_t role;   /* in which role */
+} ulz_entry;
 
 /*
- * The person takes the step in the role.
- *
- *     0            moved: the marking lent is now the one after the step
- *     2, 4, 6, 8   graph or marking are not as above
- *     11 to 15     the entry is not allowed; with 15, the value is the lowest step that it waits for
- *
- * After step e: Ex gains e; In gains the steps e includes and loses those it excludes; Re first loses e, then gains e's
- * responses.
+ * A graph. Start from zeros: rows at or beyond the counts have to be 0. No step is in includes[a] and in excludes[a]. A step may
+ * stand in its own rows.
  */
-uint64_t ulz_take(ULZ_GRAPH, uint64_t marking[3], uint8_t person, uint8_t step, uint8_t role);
-
-/*
- * Is the job finished: is no step both due and included?
- *
- *     0            value 1: finished; value 0: not finished
- *     2, 4, 6, 8   graph or marking are not as above
- */
-uint64_t ulz_finished(ULZ_GRAPH, const uint64_t marking[3]);
-
-/* ---- Journals ---- */
-
-/*
- * ulz_take once more, by way of the kept marking: the same marking afterwards, and the same answers.
- *
- *     0, 2, 4, 6, 8, 11 to 15   as in ulz_take
- */
-uint64_t ulz_keep(ULZ_GRAPH, uint64_t marking[3], uint8_t person, uint8_t step, uint8_t role);
-
-/*
- * Takes the entries of a journal one after the other.
- *
- *     0               all pass: the marking lent is now the end marking, and the index is the number of entries
- *     2, 4, 6, 7, 8   graph, journal or marking are not as above
- *     11 to 15        the first entry that is not allowed: the index is its place from 0; with 15, the value is as in ulz_take
- *
- * The marking before a refused entry is what the entries before it make of the marking: run the first `index` of them.
- */
-uint64_t ulz_run(ULZ_GRAPH, uint64_t marking[3], const uint8_t *journal, size_t length);
-
-/*
- * The entry at a place of a journal, the first at place 0. A walk starts there and adds 1 after each entry; at the end it stays.
- *
- *     0   value 1: an entry (ULZ_PERSON, ULZ_STEP, ULZ_ROLE); value 0: the end, which every place from the last entry on is
- *     7   the journal's length is bad
- */
-uint64_t ulz_walk(const uint8_t *journal, size_t length, uint64_t place);
-
-/* ---- Records ---- */
-
-/*
- * The record of a journal: it applies to a marking exactly when all entries pass there, and then gives the end marking. An entry
- * that no marking could allow makes it never.
- *
- *     0            the record is in out
- *     2, 4, 6, 7   graph or journal are not as above
- */
-uint64_t ulz_fold(ULZ_GRAPH, const uint8_t *journal, size_t length, uint8_t out[65]);
-
-/*
- * The record of a and then b.
- *
- *     0    the record is in out
- *     2    n not 1..64
- *     10   a or b is no record
- */
-uint64_t ulz_join(uint8_t n, const uint8_t *a, size_t a_length, const uint8_t *b, size_t b_length, uint8_t out[65]);
-
-/*
- * Applies a record to a marking of n steps.
- *
- *     0        the marking lent is now what the record gives
- *     2        n not 1..64
- *     8, 10    marking or record are not as above
- *     16       the record does not apply
- */
-uint64_t ulz_apply(uint8_t n, const uint8_t *record, size_t length, uint64_t marking[3]);
-
-/*
- * The words of a record's bytes.
- *
- *     0    they are in words: never, then the eight sets
- *     2    n not 1..64
- *     10   the bytes are no record
- */
-uint64_t ulz_record_read(uint8_t n, const uint8_t *bytes, size_t length, uint64_t words[9]);
-
-/*
- * The bytes of a record's words.
- *
- *     0    they are the first 65 bytes of the room, and the index is 65
- *     2    n not 1..64
- *     10   the words are no record
- *     18   the room is under 65 bytes
- */
-uint64_t ulz_record_write(uint8_t n, const uint64_t words[9], uint8_t *room, size_t length);
-
-/*
- * Applies the record of a journal's beginning, read for the steps of the graph, then takes the entries of its rest.
- *
- *     0                   all pass: the marking lent is now the end marking, and the index is the number of entries of the rest
- *     2, 4, 6, 7, 8, 10   graph, journal, marking or record are not as above
- *     16                  the record does not apply
- *     11 to 15            as in ulz_run; looked at only when the record applies
- */
-uint64_t ulz_restore(ULZ_GRAPH, const uint8_t *record, size_t record_length, const uint8_t *journal, size_t length,
-                     uint64_t marking[3]);
-
-/* ---- Sheets ---- */
-
-/*
- * Reads a sheet.
- *
- *     0        counts (steps, people, roles), the six arrays and the first marking are written, every row of them
- *     1 to 6   the sheet is not as above
- */
-uint64_t ulz_read(const uint8_t *sheet, size_t length, uint8_t counts[3], uint16_t allows[64], uint16_t holds[16],
-                  uint64_t conditions[64], uint64_t responses[64], uint64_t includes[64], uint64_t excludes[64],
-                  uint64_t marking[3]);
-
-/*
- * Writes the sheet of a graph and its first marking.
- *
- *     0         it is the first bytes of the room, and the index is how many; the others stay
- *     2, 4, 6   graph or marking are not as above
- *     18        the room is shorter than the sheet
- */
-uint64_t ulz_write(ULZ_GRAPH, const uint64_t marking[3], uint8_t *room, size_t length);
-
-/* ---- Laps ---- */
-
-/*
- * The run of a stem and then a lap without end.
- *
- *     0               value 0: accepted, each step due at some point is at that point or later done or seen not included;
- *                     value 1: starved, and the index is the lowest step that from some point on is due, included and neither
- *                     done nor excluded
- *     2, 4, 6, 7, 8   graph, stem, lap or marking are not as above
- *     17              the lap is empty
- *     11 to 15        the first entry that is not allowed: the pass is 0 in the stem, 1 in the first lap, 2 in the second, 3 in
- *                     any later one, and the index is its place in the stem or lap; with 15, the value is as in ulz_take
- */
-uint64_t ulz_lap(ULZ_GRAPH, const uint64_t marking[3], const uint8_t *stem, size_t stem_length, const uint8_t *lap,
-                 size_t lap_length);
-
-/* ---- Tracker: a marking, a rank from 1 to steps, and a flag (0 down, any other value up) ---- */
-
-/*
- * Where the tracker starts.
- *
- *     0            the value is the flag, the index is the rank, 1
- *     2, 4, 6, 8   graph or marking are not as above
- */
-uint64_t ulz_track_start(ULZ_GRAPH, const uint64_t marking[3]);
-
-/*
- * An idle move.
- *
- *     0               the value is the flag, the index is the rank
- *     2, 4, 6, 8, 9   graph, marking or rank are not as above
- */
-uint64_t ulz_track_idle(ULZ_GRAPH, const uint64_t marking[3], uint8_t rank, uint8_t flag);
-
-/*
- * The person takes the step in the role, and the tracker goes along.
- *
- *     0               the marking lent is now the one after the step; the value is the flag, the index is the rank
- *     2, 4, 6, 8, 9   graph, marking or rank are not as above
- *     11 to 15        as in ulz_take
- */
-uint64_t ulz_track_step(ULZ_GRAPH, uint64_t marking[3], uint8_t rank, uint8_t flag, uint8_t person, uint8_t step,
-                        uint8_t role);
-
-/* ---- A graph in one piece, for callers who keep it so, and the calls over it ---- */
-
-/* Start from zeros: ulz_graph g = {0}; in C++, ulz_graph g = {}; */
 typedef struct ulz_graph {
-    uint64_t conditions[64], responses[64], includes[64], excludes[64];
-    uint16_t allows[64], holds[16];
-    uint8_t steps, people, roles;
+    uint64_t steps;          /* how many steps, 1 to 64 */
+    uint64_t people;         /* how many people, 1 to 16 */
+    uint64_t roles;          /* how many roles, 1 to 16 */
+    uint64_t conditions[64]; /* row b: the steps that b waits for, as long as they are included and not done */
+    uint64_t responses[64];  /* row a: the steps that become due when a is done */
+    uint64_t includes[64];   /* row a: the steps that become included when a is done */
+    uint64_t excludes[64];   /* row a: the steps that become excluded when a is done */
+    uint64_t allows[64];     /* row s: the roles in which step s can be taken */
+    uint64_t holds[16];      /* row p: the roles of person p */
 } ulz_graph;
 
-#define ULZ_PARTS(g) \
-    (g)->steps, (g)->people, (g)->roles, (g)->allows, (g)->holds, \
-    (g)->conditions, (g)->responses, (g)->includes, (g)->excludes
+/* Where a tracker is: see "The tracker". */
+typedef struct ulz_track {
+    ulz_marking marking; /* the state of the job */
+    uint64_t rank;       /* 1 to steps; the rank of step s is s + 1 */
+    uint64_t flag;       /* in an answer 1 is up and 0 is down */
+} ulz_track;
 
-static inline uint64_t ulz_graph_check(const ulz_graph *g) {
-    return ulz_check(ULZ_PARTS(g));
-}
+/* What a journal does, whatever the marking is: see "Records". */
+typedef struct ulz_record {
+    uint64_t never;          /* 1 where it applies to no marking, otherwise 0 */
+    uint64_t need_in;        /* have to be included */
+    uint64_t need_ex;        /* have to be done */
+    uint64_t need_out_or_ex; /* have to be excluded or done */
+    uint64_t done;           /* become done */
+    uint64_t due_set;        /* become due */
+    uint64_t due_clear;      /* are due no more */
+    uint64_t in_set;         /* become included */
+    uint64_t in_clear;       /* become excluded */
+} ulz_record;
 
-static inline uint64_t ulz_graph_take(const ulz_graph *g, uint64_t marking[3], uint8_t person, uint8_t step, uint8_t role) {
-    return ulz_take(ULZ_PARTS(g), marking, person, step, role);
-}
+/*
+ * ---- Answers ----
+ *
+ * Every answer has a number, one of those above. All but three have
+ *
+ *     waiting   with ULZ_WAITS the lowest step that is waited for, with every other number 0
+ *
+ * With any number but ULZ_ANSWERED the other fields are 0, except that
+ *
+ *     with 11 to 16 the marking or track is what was handed in,
+ *     with 11 to 15 ulz_run and ulz_restore give the marking before the refused entry, and its index in entries,
+ *     with 11 to 15 ulz_lap gives index and pass of the refused entry.
+ */
 
-static inline uint64_t ulz_graph_finished(const ulz_graph *g, const uint64_t marking[3]) {
-    return ulz_finished(ULZ_PARTS(g), marking);
-}
+/* Of ulz_finished. */
+typedef struct ulz_ending {
+    uint64_t number;
+    uint64_t finished; /* 1 where the job is finished, otherwise 0 */
+} ulz_ending;
 
-static inline uint64_t ulz_graph_keep(const ulz_graph *g, uint64_t marking[3], uint8_t person, uint8_t step, uint8_t role) {
-    return ulz_keep(ULZ_PARTS(g), marking, person, step, role);
-}
+/* Of ulz_take and ulz_apply. */
+typedef struct ulz_moved {
+    uint64_t number;
+    uint64_t waiting;
+    ulz_marking marking; /* the marking afterwards */
+} ulz_moved;
 
-static inline uint64_t ulz_graph_run(const ulz_graph *g, uint64_t marking[3], const uint8_t *journal, size_t length) {
-    return ulz_run(ULZ_PARTS(g), marking, journal, length);
-}
+/* Of ulz_keep. */
+typedef struct ulz_kept {
+    uint64_t number;
+    uint64_t waiting;
+} ulz_kept;
 
-static inline uint64_t ulz_graph_fold(const ulz_graph *g, const uint8_t *journal, size_t length, uint8_t out[65]) {
-    return ulz_fold(ULZ_PARTS(g), journal, length, out);
-}
+/* Of ulz_run and ulz_restore. */
+typedef struct ulz_ran {
+    uint64_t number;
+    uint64_t waiting;
+    uint64_t entries;    /* how many passed: all, or with 11 to 15 those before the refused one, which is its index from 0 */
+    ulz_marking marking; /* the marking after those that passed */
+} ulz_ran;
 
-static inline uint64_t ulz_graph_restore(const ulz_graph *g, const uint8_t *record, size_t record_length,
-                                         const uint8_t *journal, size_t length, uint64_t marking[3]) {
-    return ulz_restore(ULZ_PARTS(g), record, record_length, journal, length, marking);
-}
+/* Of ulz_walk. */
+typedef struct ulz_walked {
+    uint64_t number;
+    uint64_t ended;  /* 1 at the end, where entry is zeros; otherwise 0 */
+    ulz_entry entry; /* the entry at the place */
+} ulz_walked;
 
-/* Writes to g and marking only where the number is 0. */
-static inline uint64_t ulz_graph_read(const uint8_t *sheet, size_t length, ulz_graph *g, uint64_t marking[3]) {
-    uint8_t counts[3];
-    uint64_t answer = ulz_read(sheet, length, counts, g->allows, g->holds, g->conditions, g->responses, g->includes,
-                               g->excludes, marking);
-    if (ULZ_NUMBER(answer) == 0) {
-        g->steps = counts[0];
-        g->people = counts[1];
-        g->roles = counts[2];
-    }
-    return answer;
-}
+/* Of ulz_lap. */
+typedef struct ulz_lapped {
+    uint64_t number;
+    uint64_t waiting;
+    uint64_t verdict; /* ULZ_ACCEPTED or ULZ_STARVED where the number is 0, and 0 with every other number */
+    uint64_t step;    /* with ULZ_STARVED the lowest step that starves, otherwise 0 */
+    uint64_t index;   /* with 11 to 15 the index from 0 of the refused entry, in the stem or in the lap; otherwise 0 */
+    uint64_t pass;    /* with 11 to 15 where that was: 0 stem, 1 first time round the lap, 2 second, 3 later; otherwise 0 */
+} ulz_lapped;
 
-static inline uint64_t ulz_graph_write(const ulz_graph *g, const uint64_t marking[3], uint8_t *room, size_t length) {
-    return ulz_write(ULZ_PARTS(g), marking, room, length);
-}
+enum { ULZ_ACCEPTED = 1, ULZ_STARVED = 2 };
 
-static inline uint64_t ulz_graph_lap(const ulz_graph *g, const uint64_t marking[3], const uint8_t *stem, size_t stem_length,
-                                     const uint8_t *lap, size_t lap_length) {
-    return ulz_lap(ULZ_PARTS(g), marking, stem, stem_length, lap, lap_length);
-}
+/* Of the tracker's calls. */
+typedef struct ulz_tracked {
+    uint64_t number;
+    uint64_t waiting;
+    ulz_track track; /* the state afterwards; with 11 to 15 the one handed in, word for word, whatever its flag */
+} ulz_tracked;
 
-static inline uint64_t ulz_graph_track_start(const ulz_graph *g, const uint64_t marking[3]) {
-    return ulz_track_start(ULZ_PARTS(g), marking);
-}
+/* Of ulz_write and ulz_record_write. */
+typedef struct ulz_written {
+    uint64_t number;
+    uint64_t length; /* how many bytes of the room were written */
+} ulz_written;
 
-static inline uint64_t ulz_graph_track_idle(const ulz_graph *g, const uint64_t marking[3], uint8_t rank, uint8_t flag) {
-    return ulz_track_idle(ULZ_PARTS(g), marking, rank, flag);
-}
+/*
+ * ---- Rules ----
+ *
+ * An entry is allowed where its person holds the role, its step has the role and is included, and every step in conditions[step]
+ * that is included has been done. Then, all read off the marking before:
+ *
+ *     done       gains the step
+ *     included   gains includes[step], then loses excludes[step]
+ *     due        loses the step, then gains responses[step]: a step that is its own response is due again
+ */
 
-static inline uint64_t ulz_graph_track_step(const ulz_graph *g, uint64_t marking[3], uint8_t rank, uint8_t flag,
-                                            uint8_t person, uint8_t step, uint8_t role) {
-    return ulz_track_step(ULZ_PARTS(g), marking, rank, flag, person, step, role);
-}
+/* Is this a graph? The answer is the number alone. Numbers: 2, 4, 6. */
+uint64_t ulz_check(const ulz_graph *graph);
+
+/* Takes a step. Numbers: 2, 4, 6, 8, 11 to 15. */
+ulz_moved ulz_take(const ulz_graph *graph, ulz_marking marking, ulz_entry entry);
+
+/* Is the job finished, with no step at once due and included? Numbers: 2, 4, 6, 8. */
+ulz_ending ulz_finished(const ulz_graph *graph, ulz_marking marking);
+
+/* As ulz_take, but an allowed entry changes the marking where it lies. Numbers: 2, 4, 6, 8, 11 to 15. */
+ulz_kept ulz_keep(const ulz_graph *graph, ulz_marking *marking, ulz_entry entry);
+
+/*
+ * ---- Journals ----
+ *
+ * A journal is bytes, three for each entry: person, step, role. It may be empty.
+ */
+
+/* Takes the entries one after the other, until one is not allowed. Numbers: 2, 4, 6, 7, 8, 11 to 15. */
+ulz_ran ulz_run(const ulz_graph *graph, ulz_marking marking, const uint8_t *journal, size_t length);
+
+/*
+ * The entry at a place. A journal of k entries has them at places 0 to k - 1, and from place k on every place is its end. To walk
+ * a journal, begin at 0 and add 1 until it has ended. Numbers: 7, at every place of a journal of such a length.
+ */
+ulz_walked ulz_walk(const uint8_t *journal, size_t length, uint64_t place);
+
+/*
+ * ---- Records ----
+ *
+ * A record stands for a journal: it needs of a marking what the journal needs to pass, and changes it as the journal does. It
+ * applies to a marking where never is 0, all of need_in is included, all of need_ex is done, and no step of need_out_or_ex is
+ * included without being done. Then
+ *
+ *     done       gains done
+ *     due        loses due_clear and gains due_set
+ *     included   loses in_clear and gains in_set
+ *
+ * A record is well-formed for n steps where
+ *
+ *     never is 0 or 1
+ *     with never 1 all eight sets are empty
+ *     no set has a step at or beyond n
+ *     these pairs of sets have no step in common:
+ *         need_in   need_out_or_ex
+ *         need_ex   need_out_or_ex
+ *         done      need_ex
+ *         in_set    need_in
+ *         in_set    in_clear
+ *         due_set   due_clear
+ *
+ * Journals that do the same at every marking have the same record. The empty journal has the record of zeros, which changes
+ * nothing. n is not stored: a record for 3 steps is one for 5 steps as well.
+ *
+ * Its bytes: never is byte 0, then come the eight sets in the order of ulz_record, 8 bytes each, the lowest byte first.
+ *
+ *     offset   0       1         9         17               25     33        41          49       57
+ *     set      never   need_in   need_ex   need_out_or_ex   done   due_set   due_clear   in_set   in_clear
+ */
+
+/*
+ * The record of a journal. No entry is refused here: one that no marking could allow (a number beyond the counts, a role not held
+ * or not on the step, a step that the journal itself has excluded and not included since) makes the record never. Numbers: 2, 4,
+ * 6, 7.
+ */
+uint64_t ulz_fold(const ulz_graph *graph, const uint8_t *journal, size_t length, uint8_t out[65]);
+
+/* The record of a and then b, for n steps. Numbers: 2, 10. */
+uint64_t ulz_join(uint64_t n, const uint8_t *a, size_t a_length, const uint8_t *b, size_t b_length, uint8_t out[65]);
+
+/* What a record makes of a marking of n steps. Numbers: 2, 8, 10, 16. */
+ulz_moved ulz_apply(uint64_t n, const uint8_t *record, size_t length, ulz_marking marking);
+
+/* The record in these bytes, for n steps. Numbers: 2, 10. */
+uint64_t ulz_record_read(uint64_t n, const uint8_t *bytes, size_t length, ulz_record *record);
+
+/* Writes the 65 bytes of a record for n steps into a room of this length. Numbers: 2, 10, 18. */
+ulz_written ulz_record_write(uint64_t n, const ulz_record *record, uint8_t *room, size_t length);
+
+/*
+ * Goes on from a record: applies it to the marking, then runs the rest of the journal whose beginning it stands for. The entries
+ * are those of the rest. Numbers, in this order: 2, 4, 6, 7, 8, 10, then 16, then 11 to 15 of the earliest entry that is not
+ * allowed. With 16 the marking is the one handed in, and entries is 0.
+ */
+ulz_ran ulz_restore(const ulz_graph *graph, const uint8_t *record, size_t record_length, const uint8_t *journal,
+                    size_t length, ulz_marking marking);
+
+/*
+ * ---- Sheets ----
+ *
+ * A sheet is a graph with the marking that the job begins with, in bytes. Numbers of more than one byte have their lowest byte
+ * first. With S steps, P people and A arrows:
+ *
+ *     offset            bytes   what
+ *     0                 1       5
+ *     1                 5       contents of body 1: the byte 1, its offset 26 and its length 3, both in two bytes
+ *     6                 5       contents of body 2: 2, offset 29, length 24
+ *     11                5       contents of body 3: 3, offset 53, length 2 * S
+ *     16                5       contents of body 4: 4, offset 53 + 2 * S, length 2 * P
+ *     21                5       contents of body 5: 5, offset 53 + 2 * S + 2 * P, length 3 * A
+ *     26                3       body 1: steps, people, roles
+ *     29                24      body 2: done, due, included, 8 bytes each
+ *     53                2 * S   body 3: the roles of each step, allows[0], allows[1], ..
+ *     53 + 2 * S        2 * P   body 4: the roles of each person, holds[0], holds[1], ..
+ *     53 + 2 * (S + P)  3 * A   body 5: the arrows, each a kind, a step from and a step to
+ *
+ * Here the sheet ends. The kinds of arrows, and where they stand in a graph:
+ *
+ *     0   condition   to waits for from          conditions[to] has from: the one table whose rows belong to the arrow's end
+ *     1   response    from makes to due          responses[from] has to
+ *     2   include     from includes to           includes[from] has to
+ *     3   exclude     from excludes to           excludes[from] has to
+ *
+ * Arrows stand in ascending order, by kind, then from, then to, and none stands twice. So a graph and a marking have one sheet.
+ *
+ * What differs from this in byte 0, in a body's number or offset, in the length of body 1 or 2, in a length of body 5 that is no
+ * multiple of 3, or by not ending where body 5 ends, is ULZ_LAYOUT; other lengths of body 3 or 4 are ULZ_BODIES. Fewer than 29
+ * bytes, too few for contents and counts, and more than ULZ_SHEET_BYTES are ULZ_LAYOUT without a look at them. From 29 bytes on
+ * they are looked at, but none under ULZ_SHEET_LEAST is a sheet.
+ */
+
+/*
+ * Reads a sheet. Graph and marking are written whole, the rows beyond the counts with 0; with any number but ULZ_ANSWERED both stay
+ * as they were. Numbers: 1 to 6.
+ */
+uint64_t ulz_read(const uint8_t *sheet, size_t length, ulz_graph *graph, ulz_marking *marking);
+
+/* Writes a sheet into a room of this length; ULZ_SHEET_BYTES are always enough. Numbers: 2, 4, 6, 18. */
+ulz_written ulz_write(const ulz_graph *graph, ulz_marking marking, uint8_t *room, size_t length);
+
+/*
+ * ---- Laps ----
+ *
+ * What comes of a stem and then a lap that is repeated for ever? ULZ_STARVED: after some time a step is due and included all along
+ * and is never done again. ULZ_ACCEPTED: there is no such step; whatever is due is done, or is found excluded, then or later. Or
+ * some entry is not allowed, perhaps only when the lap is repeated.
+ */
+
+/*
+ * Judges a stem and a lap. The stem may be empty. Numbers, in this order: 2, 4, 6, 7 (of either journal), 8, then 17, then 11 to 15
+ * of the earliest entry that is not allowed.
+ */
+ulz_lapped ulz_lap(const ulz_graph *graph, ulz_marking marking, const uint8_t *stem, size_t stem_length,
+                   const uint8_t *lap, size_t lap_length);
+
+/*
+ * ---- The tracker ----
+ *
+ * It goes along with a job and raises its flag whenever the pending step whose turn it is has been seen to, so that in a job
+ * without end none is passed over for ever. A step is pending where it is due and included.
+ *
+ *     start   the rank is 1; the flag is 1 where nothing is pending
+ *     idle    marking and rank stay; the flag is 1 where nothing is pending
+ *     step    one of the steps that were pending before has its turn: the lowest whose rank is above the track's rank, or the
+ *             lowest of all if none is above. If it is the step that is taken, or is pending no more afterwards, then the rank
+ *             becomes its rank and the flag is 1. If not, or if nothing was pending before, the rank stays, and the flag is 1
+ *             where nothing is pending afterwards
+ *
+ * In all other cases the flag is 0. The flag that is handed in may have any value and counts for nothing.
+ */
+
+/* The tracker at the beginning of a job. Numbers: 2, 4, 6, 8. */
+ulz_tracked ulz_track_start(const ulz_graph *graph, ulz_marking marking);
+
+/* A while in which nothing is done. Numbers: 2, 4, 6, 8, 9. */
+ulz_tracked ulz_track_idle(const ulz_graph *graph, ulz_track track);
+
+/* Takes a step at the track's marking, and the tracker goes along. Numbers: 2, 4, 6, 8, 9, 11 to 15. */
+ulz_tracked ulz_track_step(const ulz_graph *graph, ulz_track track, ulz_entry entry);
 
 #ifdef __cplusplus
 }

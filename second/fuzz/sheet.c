@@ -46,13 +46,15 @@ int LLVMFuzzerInitialize(int *argc, char ***argv) {
     return 0;
 }
 
-static void write_back(const ulz_graph *g, const uint64_t marking[3], const uint8_t *sheet, size_t size) {
+static void write_back(const ulz_graph *g, ulz_marking marking, const uint8_t *sheet, size_t size) {
     uint8_t *room = room_end - size;
     memset(room, 0x5a, size);
-    expect(ulz_graph_write(g, marking, room + 1, size - 1) == 18, "a room that is too short is not refused with 18");
+    ulz_written written = ulz_write(g, marking, room + 1, size - 1);
+    expect(written.number == ULZ_ROOM && written.length == 0, "a room that is too short is not refused with 18");
     for (size_t i = 0; i < size; i++)
         expect(room[i] == 0x5a, "a room that is too short is written");
-    expect(ulz_graph_write(g, marking, room, size) == (uint64_t)size << 16, "what was read is not written");
+    written = ulz_write(g, marking, room, size);
+    expect(written.number == ULZ_ANSWERED && written.length == size, "what was read is not written");
     expect(memcmp(room, sheet, size) == 0, "what was read is written otherwise");
 }
 
@@ -63,18 +65,18 @@ int LLVMFuzzerTestOneInput(const uint8_t *data, size_t size) {
     memcpy(sheet, data, size);
     struct {
         ulz_graph graph;
-        uint64_t marking[3];
+        ulz_marking marking;
     } read, before;
     memset(&before, 0xa5, sizeof before);
     memcpy(&read, &before, sizeof read);
-    uint64_t answer = ulz_graph_read(sheet, size, &read.graph, read.marking);
-    expect(answer < 7, "an answer that is no number from 0 to 6");
-    expect(answer == (uint64_t)guide(sheet, size), "another number than the plain reader's");
+    uint64_t number = ulz_read(sheet, size, &read.graph, &read.marking);
+    expect(number <= ULZ_BOTH, "a number that is not 0 to 6");
+    expect(number == (uint64_t)guide(sheet, size), "another number than the plain reader's");
     expect(memcmp(sheet, data, size) == 0, "the sheet is written");
-    if (answer == 0)
+    if (number == ULZ_ANSWERED)
         write_back(&read.graph, read.marking, sheet, size);
     else
         expect(memcmp(&read, &before, sizeof read) == 0, "a refused sheet has written something");
-    came[answer]++;
+    came[number]++;
     return 0;
 }

@@ -11,10 +11,10 @@ pub type Bend = fn(&mut Dice, &Graph, &mut Marking, Entry);
 
 /// With 64 steps no arrow can name a step beyond and no row stands beyond, and with fewer both are asked: a check of the one
 /// tells nothing of the other.
-pub const SIZES: [u8; 2] = [64, 40];
+pub const SIZES: [usize; 2] = [64, 40];
 
 /// The name of a line over graphs of so many steps.
-pub fn named(name: &str, steps: u8) -> String {
+pub fn named(name: &str, steps: usize) -> String {
     if steps == 64 {
         name.to_string()
     } else {
@@ -26,12 +26,12 @@ pub fn full(bend: Bend) -> Vec<Case> {
     of_steps(64, bend)
 }
 
-pub fn of_steps(steps: u8, bend: Bend) -> Vec<Case> {
+pub fn of_steps(steps: usize, bend: Bend) -> Vec<Case> {
     (0..GRAPHS)
         .map(|index| {
             let mut dice = Dice::new(64, index);
             let graph = dense(&mut dice, steps);
-            let mut marking = cases::inside(&mut dice, steps);
+            let mut marking = cases::inside(&mut dice, graph.steps);
             let entry = cases::fitting(&mut dice, &graph);
             bend(&mut dice, &graph, &mut marking, entry);
             Case { graph, marking, entry }
@@ -39,7 +39,7 @@ pub fn of_steps(steps: u8, bend: Bend) -> Vec<Case> {
         .collect()
 }
 
-fn dense(dice: &mut Dice, steps: u8) -> Graph {
+fn dense(dice: &mut Dice, steps: usize) -> Graph {
     cases::sized(dice, [steps, 16, 16], [Density::Dense; 6])
 }
 
@@ -54,7 +54,7 @@ pub struct Job {
 pub fn job(entries: usize) -> Job {
     let mut dice = Dice::new(64, entries as u64);
     let graph = dense(&mut dice, 64);
-    let marking = Marking([u64::MAX, dice.word(), u64::MAX]);
+    let marking = Marking::new(u64::MAX, dice.word(), u64::MAX);
     let mut journal = Vec::new();
     cases::walk(&mut dice, &graph, &mut marking.clone(), entries, &mut journal);
     assert_eq!(journal.len(), 3 * entries, "the walk got stuck");

@@ -1,24 +1,18 @@
-use second::data::{Answer, Entry, Graph};
-
-over_graph! {
-    safe fn ulz_keep(marking: &mut [u64; 3], person: u8, step: u8, role: u8);
-    unsafe fn ulz_run(marking: &mut [u64; 3], journal: *const u8, length: usize);
-}
+use second::data::{Entry, Graph, Kept, Marking, Ran, Walked};
 
 unsafe extern "C" {
-    fn ulz_walk(journal: *const u8, length: usize, place: u64) -> u64;
+    #[link_name = "ulz_keep"]
+    pub safe fn keep(graph: &Graph, marking: &mut Marking, entry: Entry) -> Kept;
+    fn ulz_run(graph: &Graph, marking: Marking, journal: *const u8, length: usize) -> Ran;
+    fn ulz_walk(journal: *const u8, length: usize, place: u64) -> Walked;
 }
 
-pub fn keep(g: &Graph, marking: &mut [u64; 3], e: Entry) -> Answer {
-    with_graph!(ulz_keep, g, marking, e.person, e.step, e.role)
+// SAFETY, for each of these: pointer and length are those of one slice.
+
+pub fn run(graph: &Graph, marking: Marking, journal: &[u8]) -> Ran {
+    unsafe { ulz_run(graph, marking, journal.as_ptr(), journal.len()) }
 }
 
-pub fn run(g: &Graph, marking: &mut [u64; 3], journal: &[u8]) -> Answer {
-    // SAFETY: pointer and length are those of one slice.
-    unsafe { with_graph!(ulz_run, g, marking, journal.as_ptr(), journal.len()) }
-}
-
-pub fn walk(journal: &[u8], place: u64) -> Answer {
-    // SAFETY: pointer and length are those of one slice.
-    Answer(unsafe { ulz_walk(journal.as_ptr(), journal.len(), place) })
+pub fn walk(journal: &[u8], place: u64) -> Walked {
+    unsafe { ulz_walk(journal.as_ptr(), journal.len(), place) }
 }

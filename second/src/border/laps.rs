@@ -1,12 +1,17 @@
-use second::data::{Answer, Graph};
+use second::data::{Graph, Lapped, Marking};
 
-over_graph! {
-    unsafe fn ulz_lap(
-        marking: &[u64; 3], stem: *const u8, stem_length: usize, lap: *const u8, lap_length: usize
-    );
+unsafe extern "C" {
+    fn ulz_lap(
+        graph: &Graph,
+        marking: Marking,
+        stem: *const u8,
+        stem_length: usize,
+        lap: *const u8,
+        lap_length: usize,
+    ) -> Lapped;
 }
 
-pub fn lap(g: &Graph, marking: &[u64; 3], stem: &[u8], lap: &[u8]) -> Answer {
+pub fn lap(graph: &Graph, marking: Marking, stem: &[u8], lap: &[u8]) -> Lapped {
     // SAFETY: each pointer and length are those of one slice.
-    unsafe { with_graph!(ulz_lap, g, marking, stem.as_ptr(), stem.len(), lap.as_ptr(), lap.len()) }
+    unsafe { ulz_lap(graph, marking, stem.as_ptr(), stem.len(), lap.as_ptr(), lap.len()) }
 }

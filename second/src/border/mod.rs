@@ -1,13 +1,12 @@
 //! The border to the box: the one folder that has to be believed about foreign code. It mirrors `include/ulzhartep.h`; a floor
 //! is asked for by its feature, so that a library without it can still be linked.
 //!
-//! An array is lent as a pointer to its first element, bytes of any number as a pointer and their length. The calls keep none of
-//! them, and write only to what is lent by `&mut` and to bytes whose pointer is `*mut`.
+//! Markings, entries and tracks go by value, a graph or a record as a pointer to it, bytes of any number as a pointer and their
+//! length. The calls keep none of what is lent, and write only to what is lent by `&mut` or `*mut`. A call is safe where no
+//! pointer is bare.
 
 #![allow(unsafe_code)]
 
-#[macro_use]
-mod graph;
 #[cfg(feature = "journals")]
 mod journals;
 #[cfg(feature = "laps")]

@@ -1,41 +1,43 @@
-use second::data::{Answer, Graph};
-
-over_graph! {
-    unsafe fn ulz_fold(journal: *const u8, length: usize, out: &mut [u8; 65]);
-    unsafe fn ulz_restore(
-        record: *const u8, record_length: usize, journal: *const u8, length: usize, marking: &mut [u64; 3]
-    );
-}
+use second::data::{Graph, Marking, Moved, Ran, Record, Written};
 
 unsafe extern "C" {
-    fn ulz_join(n: u8, a: *const u8, a_length: usize, b: *const u8, b_length: usize, out: &mut [u8; 65]) -> u64;
-    fn ulz_apply(n: u8, record: *const u8, length: usize, marking: &mut [u64; 3]) -> u64;
-    fn ulz_record_read(n: u8, bytes: *const u8, length: usize, words: &mut [u64; 9]) -> u64;
-    fn ulz_record_write(n: u8, words: &[u64; 9], room: *mut u8, length: usize) -> u64;
+    fn ulz_fold(graph: &Graph, journal: *const u8, length: usize, out: &mut [u8; 65]) -> u64;
+    fn ulz_join(n: u64, a: *const u8, a_length: usize, b: *const u8, b_length: usize, out: &mut [u8; 65]) -> u64;
+    fn ulz_apply(n: u64, record: *const u8, length: usize, marking: Marking) -> Moved;
+    fn ulz_record_read(n: u64, bytes: *const u8, length: usize, record: &mut Record) -> u64;
+    fn ulz_record_write(n: u64, record: &Record, room: *mut u8, length: usize) -> Written;
+    fn ulz_restore(
+        graph: &Graph,
+        record: *const u8,
+        record_length: usize,
+        journal: *const u8,
+        length: usize,
+        marking: Marking,
+    ) -> Ran;
 }
 
 // SAFETY, for each of these: pointer and length are those of one slice.
 
-pub fn fold(g: &Graph, journal: &[u8], out: &mut [u8; 65]) -> Answer {
-    unsafe { with_graph!(ulz_fold, g, journal.as_ptr(), journal.len(), out) }
+pub fn fold(graph: &Graph, journal: &[u8], out: &mut [u8; 65]) -> u64 {
+    unsafe { ulz_fold(graph, journal.as_ptr(), journal.len(), out) }
 }
 
-pub fn restore(g: &Graph, record: &[u8], journal: &[u8], marking: &mut [u64; 3]) -> Answer {
-    unsafe { with_graph!(ulz_restore, g, record.as_ptr(), record.len(), journal.as_ptr(), journal.len(), marking) }
+pub fn join(n: u64, a: &[u8], b: &[u8], out: &mut [u8; 65]) -> u64 {
+    unsafe { ulz_join(n, a.as_ptr(), a.len(), b.as_ptr(), b.len(), out) }
 }
 
-pub fn join(n: u8, a: &[u8], b: &[u8], out: &mut [u8; 65]) -> Answer {
-    Answer(unsafe { ulz_join(n, a.as_ptr(), a.len(), b.as_ptr(), b.len(), out) })
+pub fn apply(n: u64, record: &[u8], marking: Marking) -> Moved {
+    unsafe { ulz_apply(n, record.as_ptr(), record.len(), marking) }
 }
 
-pub fn apply(n: u8, record: &[u8], marking: &mut [u64; 3]) -> Answer {
-    Answer(unsafe { ulz_apply(n, record.as_ptr(), record.len(), marking) })
+pub fn record_read(n: u64, bytes: &[u8], record: &mut Record) -> u64 {
+    unsafe { ulz_record_read(n, bytes.as_ptr(), bytes.len(), record) }
 }
 
-pub fn record_read(n: u8, bytes: &[u8], words: &mut [u64; 9]) -> Answer {
-    Answer(unsafe { ulz_record_read(n, bytes.as_ptr(), bytes.len(), words) })
+pub fn record_write(n: u64, record: &Record, room: &mut [u8]) -> Written {
+    unsafe { ulz_record_write(n, record, room.as_mut_ptr(), room.len()) }
 }
 
-pub fn record_write(n: u8, words: &[u64; 9], room: &mut [u8]) -> Answer {
-    Answer(unsafe { ulz_record_write(n, words, room.as_mut_ptr(), room.len()) })
+pub fn restore(graph: &Graph, record: &[u8], journal: &[u8], marking: Marking) -> Ran {
+    unsafe { ulz_restore(graph, record.as_ptr(), record.len(), journal.as_ptr(), journal.len(), marking) }
 }

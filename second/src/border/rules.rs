@@ -1,20 +1,10 @@
-use second::data::{Answer, Entry, Graph};
+use second::data::{Ending, Entry, Graph, Marking, Moved};
 
-over_graph! {
-    safe fn ulz_check();
-    safe fn ulz_take(marking: &mut [u64; 3], person: u8, step: u8, role: u8);
-    safe fn ulz_finished(marking: &[u64; 3]);
-}
-
-pub fn check(g: &Graph) -> Answer {
-    with_graph!(ulz_check, g)
-}
-
-/// The marking is lent as the bare array, so that a caller may lend a part of a longer one.
-pub fn take(g: &Graph, marking: &mut [u64; 3], e: Entry) -> Answer {
-    with_graph!(ulz_take, g, marking, e.person, e.step, e.role)
-}
-
-pub fn finished(g: &Graph, marking: &[u64; 3]) -> Answer {
-    with_graph!(ulz_finished, g, marking)
+unsafe extern "C" {
+    #[link_name = "ulz_check"]
+    pub safe fn check(graph: &Graph) -> u64;
+    #[link_name = "ulz_take"]
+    pub safe fn take(graph: &Graph, marking: Marking, entry: Entry) -> Moved;
+    #[link_name = "ulz_finished"]
+    pub safe fn finished(graph: &Graph, marking: Marking) -> Ending;
 }

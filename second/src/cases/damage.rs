@@ -13,65 +13,54 @@ pub fn damage(dice: &mut Dice, g: &mut Graph) {
 
 fn change_count(dice: &mut Dice, g: &mut Graph) {
     let (count, most) = match dice.below(3) {
-        0 => (&mut g.steps, 64u8),
+        0 => (&mut g.steps, 64),
         1 => (&mut g.people, 16),
         _ => (&mut g.roles, 16),
     };
-    *count = dice.pick(&[0, most, most + 1, 255, count.wrapping_sub(1), count.wrapping_add(1)]);
+    let near = [0, most, most + 1, 255, count.wrapping_sub(1), count.wrapping_add(1)];
+    let far = [256, dice.come_round(*count), dice.any_size(), u64::MAX];
+    *count = if dice.one_in(3) { dice.pick(&far) } else { dice.pick(&near) };
 }
 
-/// One of the six arrays: its rows, how many of them are in use, the width of a row, how much of that is in use.
-struct Shape {
-    rows: usize,
+/// One of the six tables: its rows, how many of them are in use, and how many members of a row are known.
+struct Table<'a> {
+    rows: &'a mut [u64],
     used: usize,
-    width: usize,
-    bound: usize,
+    known: usize,
 }
 
-fn shape(g: &Graph, array: usize) -> Shape {
-    let (steps, people, roles) = (g.steps.into(), g.people.into(), g.roles.into());
-    match array {
-        0 => Shape { rows: 64, used: steps, width: 16, bound: roles },
-        1 => Shape { rows: 16, used: people, width: 16, bound: roles },
-        _ => Shape { rows: 64, used: steps, width: 64, bound: steps },
-    }
-}
-
-fn put(g: &mut Graph, array: usize, row: usize, bit: usize) {
-    match array {
-        0 => g.allows[row] |= 1 << bit,
-        1 => g.holds[row] |= 1 << bit,
-        2 => g.conditions[row] |= 1 << bit,
-        3 => g.responses[row] |= 1 << bit,
-        4 => g.includes[row] |= 1 << bit,
-        _ => g.excludes[row] |= 1 << bit,
+fn table<'a>(dice: &mut Dice, g: &'a mut Graph) -> Table<'a> {
+    let [steps, people, roles] = [g.steps, g.people, g.roles].map(|count| count.min(64) as usize);
+    match dice.below(6) {
+        0 => Table { rows: &mut g.conditions, used: steps, known: steps },
+        1 => Table { rows: &mut g.responses, used: steps, known: steps },
+        2 => Table { rows: &mut g.includes, used: steps, known: steps },
+        3 => Table { rows: &mut g.excludes, used: steps, known: steps },
+        4 => Table { rows: &mut g.allows, used: steps, known: roles },
+        _ => Table { rows: &mut g.holds, used: people.min(16), known: roles },
     }
 }
 
 /// A row in use names something beyond the counts.
 fn name_beyond(dice: &mut Dice, g: &mut Graph) {
-    let array = dice.below(6);
-    let Shape { rows, used, width, bound } = shape(g, array);
-    if used > 0 && bound < width {
-        let (row, bit) = (dice.between(0, used.min(rows)), dice.between(bound, width));
-        put(g, array, row, bit);
+    let Table { rows, used, known } = table(dice, g);
+    if used > 0 && known < 64 {
+        rows[dice.between(0, used)] |= 1 << dice.between(known, 64);
     }
 }
 
 /// A row beyond the counts holds something, most often something that would be known.
 fn store_beyond(dice: &mut Dice, g: &mut Graph) {
-    let array = dice.below(6);
-    let Shape { rows, used, width, bound } = shape(g, array);
-    if used < rows {
-        let known = if dice.one_in(8) { width } else { bound.clamp(1, width) };
-        let (row, bit) = (dice.between(used, rows), dice.between(0, known));
-        put(g, array, row, bit);
+    let Table { rows, used, known } = table(dice, g);
+    if used < rows.len() {
+        let bound = if dice.one_in(8) { 64 } else { known.max(1) };
+        rows[dice.between(used, rows.len())] |= 1 << dice.between(0, bound);
     }
 }
 
 fn include_and_exclude(dice: &mut Dice, g: &mut Graph) {
-    let steps = usize::from(g.steps).clamp(1, 64);
+    let steps = g.steps.clamp(1, 64) as usize;
     let (from, to) = (dice.between(0, steps), dice.between(0, steps));
-    put(g, 4, from, to);
-    put(g, 5, from, to);
+    g.includes[from] |= 1 << to;
+    g.excludes[from] |= 1 << to;
 }

@@ -45,6 +45,16 @@ impl Dice {
         }
     }
 
+    /// A number of any size, small ones as often as large ones.
+    pub fn any_size(&mut self) -> u64 {
+        self.word() >> self.below(64)
+    }
+
+    /// One that is `number` again where only its lowest 8, 16 or 32 bits are looked at.
+    pub fn come_round(&mut self, number: u64) -> u64 {
+        number.wrapping_add(self.pick(&[1 << 8, 1 << 16, 1 << 32]))
+    }
+
     pub fn pick<T: Copy>(&mut self, from: &[T]) -> T {
         from[self.below(from.len())]
     }

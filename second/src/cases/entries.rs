@@ -11,7 +11,7 @@ pub fn aimed(dice: &mut Dice, g: &Graph, m: &mut Marking) -> Entry {
         3 => entry.person = known(dice, g).person,
         4 => entry.step = known(dice, g).step,
         5 => entry.role = known(dice, g).role,
-        6 => m.0[2] &= !this,
+        6 => m.included &= !this,
         7..=9 => make_waiting(dice, g, m, entry),
         _ => make_moved(dice, g, m, entry),
     }
@@ -20,11 +20,11 @@ pub fn aimed(dice: &mut Dice, g: &Graph, m: &mut Marking) -> Entry {
 
 /// A role, a person who holds it and a step that has it, as far as the graph has such.
 pub fn fitting(dice: &mut Dice, g: &Graph) -> Entry {
-    let union = |rows: &[u16]| rows.iter().fold(0, |union, row| union | row);
+    let union = |rows: &[u64]| rows.iter().fold(0, |union, row| union | row);
     let Entry { person, step, role } = known(dice, g);
-    let role = dice.member((union(&g.holds) & union(&g.allows)).into()).unwrap_or(role);
+    let role = dice.member(union(&g.holds) & union(&g.allows)).unwrap_or(role);
     let with_role =
-        |rows: &[u16]| (0..rows.len()).filter(|&i| rows[i] >> (role % 16) & 1 == 1).fold(0, |set, i| set | 1 << i);
+        |rows: &[u64]| (0..rows.len()).filter(|&i| rows[i] >> (role % 64) & 1 == 1).fold(0, |set, i| set | 1 << i);
     Entry {
         person: dice.member(with_role(&g.holds)).unwrap_or(person),
         step: dice.member(with_role(&g.allows)).unwrap_or(step),
@@ -34,7 +34,7 @@ pub fn fitting(dice: &mut Dice, g: &Graph) -> Entry {
 
 pub fn known(dice: &mut Dice, g: &Graph) -> Entry {
     let [person, step, role] =
-        [g.people, g.steps, g.roles].map(|count| dice.between(0, usize::from(count).max(1)) as u8);
+        [g.people, g.steps, g.roles].map(|count| dice.between(0, count.clamp(1, 256) as usize) as u8);
     Entry { person, step, role }
 }
 
@@ -45,7 +45,7 @@ pub fn make_unknown(dice: &mut Dice, g: &Graph, entry: &mut Entry) {
         [(&mut entry.person, g.people), (&mut entry.step, g.steps), (&mut entry.role, g.roles)].into_iter().enumerate()
     {
         if places >> i & 1 == 1 {
-            *place = dice.between(count.into(), 256) as u8;
+            *place = dice.between(count.min(255) as usize, 256) as u8;
         }
     }
 }
@@ -57,20 +57,20 @@ pub fn make_waiting(dice: &mut Dice, g: &Graph, m: &mut Marking, entry: Entry) {
         make_moved(dice, g, m, entry);
     }
     let step = usize::from(entry.step % 64);
-    m.0[2] |= 1 << step;
+    m.included |= 1 << step;
     if let Some(condition) = dice.member(g.conditions[step]) {
-        m.0[2] |= 1 << condition;
-        m.0[0] &= !(1 << condition);
+        m.included |= 1 << condition;
+        m.done &= !(1 << condition);
     }
 }
 
 /// Includes the step, and has each waiting condition done or excluded.
 pub fn make_moved(dice: &mut Dice, g: &Graph, m: &mut Marking, entry: Entry) {
     let step = usize::from(entry.step % 64);
-    m.0[2] |= 1 << step;
-    let waiting = g.conditions[step] & m.0[2] & !m.0[0];
+    m.included |= 1 << step;
+    let waiting = g.conditions[step] & m.included & !m.done;
     // A step that waits for itself cannot be excluded, only done.
     let excluded = waiting & dice.pick(&[0, u64::MAX]) & !(1 << step);
-    m.0[2] &= !excluded;
-    m.0[0] |= waiting & !excluded;
+    m.included &= !excluded;
+    m.done |= waiting & !excluded;
 }

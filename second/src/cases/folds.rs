@@ -51,9 +51,9 @@ fn cuts(dice: &mut Dice, entries: usize) -> Vec<usize> {
 /// Most often the fold of the journal's beginning; or any record; or damaged.
 fn record(dice: &mut Dice, graph: &Graph, beginning: &[u8]) -> Bytes {
     let steps = graph.steps.clamp(1, 64);
-    let (mut bytes, mut words) = ([0; 65], records::record(dice, steps));
-    if !dice.one_in(8) && peer::record::fold(graph, beginning, &mut bytes).is_ok() {
-        let _ = peer::record::read(steps, &bytes, &mut words);
+    let (mut bytes, mut record) = ([0; 65], records::record(dice, steps));
+    if !dice.one_in(8) && peer::record::fold(graph, beginning, &mut bytes) == 0 {
+        peer::record::read(steps, &bytes, &mut record);
     }
-    Bytes(records::bytes(dice, steps, words))
+    Bytes(records::bytes(dice, steps, record))
 }

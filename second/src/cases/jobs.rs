@@ -26,7 +26,7 @@ pub fn make(dice: &mut Dice, index: u64) -> Job {
     match index {
         0 => {
             let job = of_graph(dice, &sample::graph(), sample::START, 0);
-            Job { marking: bytes(sample::START), record: vec![0; 65], ..job }
+            Job { marking: sample::START.bytes(), record: vec![0; 65], ..job }
         }
         1 => {
             let (graph, marking) = dense(dice);
@@ -57,7 +57,7 @@ fn dense(dice: &mut Dice) -> (Graph, Marking) {
 }
 
 fn sparse(dice: &mut Dice) -> (Graph, Marking) {
-    let sizes = [64, 16, 16].map(|most| dice.between(1, most + 1) as u8);
+    let sizes = [64, 16, 16].map(|most| dice.between(1, most + 1));
     livened(dice, |dice| graphs::sized(dice, sizes, [Density::Sparse; 6]))
 }
 
@@ -91,17 +91,13 @@ fn of_graph(dice: &mut Dice, g: &Graph, start: Marking, faults: usize) -> Job {
     if dice.one_in(8) {
         markings::name_beyond(dice, g.steps, &mut marking);
     }
-    let words = records::record(dice, g.steps);
+    let record = records::record(dice, g.steps);
     Job {
-        sheet: damaged(dice, written(g, &start), faults),
+        sheet: damaged(dice, written(g, start), faults),
         journals,
-        marking: bytes(marking),
-        record: records::bytes(dice, g.steps, words),
+        marking: marking.bytes(),
+        record: records::bytes(dice, g.steps, record),
     }
-}
-
-fn bytes(marking: Marking) -> Vec<u8> {
-    marking.0.iter().flat_map(|set| set.to_le_bytes()).collect()
 }
 
 /// Allowed entries, one that is refused in any of the five ways, and others after it.

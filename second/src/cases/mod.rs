@@ -45,7 +45,7 @@ pub fn make(dice: &mut Dice) -> Case {
 fn job(dice: &mut Dice) -> (Graph, Marking) {
     match dice.below(20) {
         0 | 1 => (sample::graph(), dice.pick(&[sample::START, sample::REBOOTED, sample::CHECKED])),
-        2 => (graphs::noise(dice), Marking([dice.word(), dice.word(), dice.word()])),
+        2 => (graphs::noise(dice), Marking::new(dice.word(), dice.word(), dice.word())),
         _ => {
             let graph = graphs::well_formed(dice);
             let marking = markings::inside(dice, graph.steps);

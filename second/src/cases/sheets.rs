@@ -19,9 +19,9 @@ pub struct Sheet {
 
 pub fn make(dice: &mut Dice) -> Sheet {
     let (graph, marking) = whole(dice);
-    let sheet = written(&graph, &marking);
+    let sheet = written(&graph, marking);
     let (mut graph, mut marking) = if dice.one_in(2) { (graph, marking) } else { job(dice) };
-    let length = written(&graph, &marking).len();
+    let length = written(&graph, marking).len();
     if dice.one_in(2) {
         harm(dice, &mut graph, &mut marking);
     }
@@ -36,9 +36,9 @@ pub fn whole(dice: &mut Dice) -> (Graph, Marking) {
         1 => sample::graph(),
         2..16 => graphs::well_formed(dice),
         _ => {
-            let [steps, people, roles] = [8, 4, 4].map(|most| 1 + dice.below(most) as u8);
+            let sizes = [8, 4, 4].map(|most| 1 + dice.below(most));
             let densities = [(); 6].map(|()| dice.density());
-            graphs::sized(dice, [steps, people, roles], densities)
+            graphs::sized(dice, sizes, densities)
         }
     };
     let marking = markings::inside(dice, graph.steps);
@@ -46,10 +46,10 @@ pub fn whole(dice: &mut Dice) -> (Graph, Marking) {
 }
 
 /// Its sheet, or nothing where it has none.
-pub fn written(graph: &Graph, marking: &Marking) -> Vec<u8> {
+pub fn written(graph: &Graph, marking: Marking) -> Vec<u8> {
     let mut room = vec![0; ROOM];
-    let length = peer::sheet::write(graph, marking, &mut room).unwrap_or(0);
-    room.truncate(length);
+    let length = peer::sheet::write(graph, marking, &mut room).length;
+    room.truncate(length as usize);
     room
 }
 

@@ -1,17 +1,15 @@
 //! States of the tracker with an entry, and walks: idle moves and entries one after the other.
 
 use super::{entries, harm, job, lively_job, walks, Dice};
-use crate::data::{Entry, Graph, Marking};
+use crate::data::{self, Entry, Graph, Marking};
 use crate::peer;
 
 #[derive(Clone, Debug)]
 pub struct Track {
     pub graph: Graph,
-    pub marking: Marking,
-    pub rank: u8,
-    pub flag: u8,
+    pub track: data::Track,
     pub entry: Entry,
-    /// From the marking on: an entry, or an idle move.
+    /// From the track's marking on: an entry, or an idle move.
     pub moves: Vec<Option<Entry>>,
 }
 
@@ -19,14 +17,21 @@ pub fn make(dice: &mut Dice) -> Track {
     let (mut graph, mut marking) = if dice.one_in(4) { job(dice) } else { lively_job(dice) };
     let entry = entries::aimed(dice, &graph, &mut marking);
     let moves = moves(dice, &graph, marking);
-    let rank = match dice.below(16) {
-        0 => dice.pick(&[0, graph.steps.wrapping_add(1), 64, 65, 255]),
-        _ => dice.between(1, usize::from(graph.steps).max(1) + 1) as u8,
-    };
+    let (rank, flag) = (rank(dice, graph.steps), dice.pick(&[0, 1, 1, 2, 255, 256, 1 << 32, u64::MAX]));
     if dice.one_in(3) {
         harm(dice, &mut graph, &mut marking);
     }
-    Track { graph, marking, rank, flag: dice.pick(&[0, 1, 2, 255]), entry, moves }
+    Track { graph, track: data::Track { marking, rank, flag }, entry, moves }
+}
+
+/// Of a step, most often.
+fn rank(dice: &mut Dice, steps: u64) -> u64 {
+    let rank = dice.between(1, steps.clamp(1, 64) as usize + 1) as u64;
+    match dice.below(16) {
+        0 => dice.pick(&[0, steps.wrapping_add(1), 64, 65, 255, 256, u64::MAX]),
+        1 if dice.one_in(2) => dice.come_round(rank),
+        _ => rank,
+    }
 }
 
 /// Allowed entries, one in eight refused, and idle moves between.
@@ -44,7 +49,7 @@ fn moves(dice: &mut Dice, g: &Graph, mut at: Marking) -> Vec<Option<Entry>> {
                 [person, step, role] => Some(Entry { person, step, role }),
                 _ => Some(walks::refused(dice, g, &at)).inspect(|entry| {
                     // It may be allowed where the graph has no room for the refusal.
-                    let _ = peer::take(g, &mut at, *entry);
+                    peer::keep(g, &mut at, *entry);
                 }),
             }
         })

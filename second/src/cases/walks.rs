@@ -13,10 +13,10 @@ use crate::peer;
 pub fn walk(dice: &mut Dice, g: &Graph, m: &mut Marking, entries: usize, journal: &mut Vec<u8>) {
     let usable = usable(g);
     for _ in 0..entries {
-        let open = usable & m.0[2] & !waiting(g, m);
+        let open = usable & m.included & !waiting(g, m);
         let Some(step) = dice.member(open) else { return };
         let entry = by_someone(dice, g, step);
-        if peer::take(g, m, entry).is_err() {
+        if peer::keep(g, m, entry).number != 0 {
             return;
         }
         push(journal, entry);
@@ -28,7 +28,7 @@ pub fn push(journal: &mut Vec<u8>, Entry { person, step, role }: Entry) {
 }
 
 /// The roles that some person holds.
-fn held(g: &Graph) -> u16 {
+fn held(g: &Graph) -> u64 {
     g.holds.iter().fold(0, |union, roles| union | roles)
 }
 
@@ -39,8 +39,7 @@ fn usable(g: &Graph) -> u64 {
 }
 
 fn waiting(g: &Graph, m: &Marking) -> u64 {
-    let [done, _, included] = m.0;
-    steps_where(|step| g.conditions[step] & included & !done != 0)
+    steps_where(|step| g.conditions[step] & m.included & !m.done != 0)
 }
 
 fn steps_where(holds: impl Fn(usize) -> bool) -> u64 {
@@ -50,9 +49,9 @@ fn steps_where(holds: impl Fn(usize) -> bool) -> u64 {
 /// The step, in a role that it has and by a person who holds that, as far as there are such.
 fn by_someone(dice: &mut Dice, g: &Graph, step: u8) -> Entry {
     let other = known(dice, g);
-    let role = dice.member((g.allows[usize::from(step % 64)] & held(g)).into()).unwrap_or(other.role);
+    let role = dice.member(g.allows[usize::from(step % 64)] & held(g)).unwrap_or(other.role);
     let holders =
-        (0..16).filter(|&person| g.holds[person] >> (role % 16) & 1 == 1).fold(0, |set, person| set | 1 << person);
+        (0..16).filter(|&person| g.holds[person] >> (role % 64) & 1 == 1).fold(0, |set, person| set | 1 << person);
     Entry { person: dice.member(holders).unwrap_or(other.person), step, role }
 }
 
@@ -62,19 +61,19 @@ pub fn refused(dice: &mut Dice, g: &Graph, m: &Marking) -> Entry {
     match dice.below(5) {
         0 => make_unknown(dice, g, &mut entry),
         1 => {
-            let lacking = !g.holds[usize::from(entry.person % 16)] & first(g.roles) as u16;
-            entry.role = dice.member(lacking.into()).unwrap_or(entry.role);
+            let lacking = !g.holds[usize::from(entry.person % 16)] & first(g.roles);
+            entry.role = dice.member(lacking).unwrap_or(entry.role);
         }
         2 => {
-            let without = steps_where(|step| g.allows[step] >> (entry.role % 16) & 1 == 0) & first(g.steps);
+            let without = steps_where(|step| g.allows[step] >> (entry.role % 64) & 1 == 0) & first(g.steps);
             entry.step = dice.member(without).unwrap_or(entry.step);
         }
         3 => {
-            let excluded = usable(g) & !m.0[2];
+            let excluded = usable(g) & !m.included;
             entry = dice.member(excluded).map_or(entry, |step| by_someone(dice, g, step));
         }
         _ => {
-            let waits = usable(g) & m.0[2] & waiting(g, m);
+            let waits = usable(g) & m.included & waiting(g, m);
             entry = dice.member(waits).map_or(entry, |step| by_someone(dice, g, step));
         }
     }

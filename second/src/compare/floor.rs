@@ -23,7 +23,7 @@ pub struct Floor<I: 'static> {
     /// The same with a journal of full length, where the floor has journals.
     pub full: Option<fn(&mut Dice) -> I>,
     /// The number of steps, where it is lawful: each from 1 to 64 must come up.
-    pub size: fn(&I) -> Option<u8>,
+    pub size: fn(&I) -> Option<u64>,
     pub calls: &'static [Call<I>],
 }
 

@@ -1,4 +1,4 @@
-//! Memory that is lent to the box, with known words or bytes on either side, so that writing beside it shows.
+//! Memory that is lent to the box, with something known on either side, so that writing beside it shows.
 
 use crate::seen::Seen;
 use std::fmt::Debug;
@@ -7,43 +7,55 @@ use std::hint::black_box;
 /// How much stands on either side.
 const BESIDE: usize = 4;
 
-pub struct Lent<T> {
-    all: Vec<T>,
-    beside: T,
+/// A word that no set of ours holds often.
+const WORD: u64 = 0x5555_aaaa_5555_aaaa;
+
+/// A byte that is seldom.
+const BYTE: u8 = 0xa5;
+
+/// A graph, a marking or a record, between words.
+#[repr(C)]
+pub struct Words<T> {
+    front: [u64; BESIDE],
+    pub content: T,
+    back: [u64; BESIDE],
 }
 
-impl<T: Copy + PartialEq + Debug> Lent<T> {
-    pub fn new(content: &[T], beside: T) -> Self {
-        let beside_it = [beside; BESIDE];
-        Lent { all: [&beside_it, content, &beside_it].concat(), beside }
+impl<T: PartialEq + Debug> Words<T> {
+    pub fn new(content: T) -> Self {
+        Words { front: [WORD; BESIDE], content, back: [WORD; BESIDE] }
     }
 
-    pub fn part(&mut self) -> &mut [T] {
-        let end = self.all.len() - BESIDE;
-        &mut self.all[BESIDE..end]
+    /// What it holds after the call, and that nothing beside it was written. The compiler may take it that what was lent to be
+    /// read is not written; it must be read again all the same.
+    pub fn expect(mut self, seen: &mut Seen, what: &str, right: &T) {
+        let Words { front, content, back } = black_box(&mut self);
+        seen.expect(what, right, content);
+        seen.expect(&format!("beside {what}"), &[WORD; 2 * BESIDE][..], &[*front, *back].concat());
+    }
+}
+
+/// Bytes of any number, between others.
+pub struct Bytes(Vec<u8>);
+
+impl Bytes {
+    pub fn new(content: &[u8]) -> Self {
+        Bytes([&[BYTE; BESIDE], content, &[BYTE; BESIDE]].concat())
     }
 
-    pub fn array<const N: usize>(&mut self) -> &mut [T; N] {
+    pub fn part(&mut self) -> &mut [u8] {
+        let end = self.0.len() - BESIDE;
+        &mut self.0[BESIDE..end]
+    }
+
+    pub fn array<const N: usize>(&mut self) -> &mut [u8; N] {
         self.part().try_into().expect("as many as were put in")
     }
 
-    /// What it holds after the call, and that nothing beside it was written.
-    pub fn expect(mut self, seen: &mut Seen, what: &str, right: &[T]) {
-        let beside = self.beside;
-        let all = black_box(&mut self.all);
-        let (front, rest) = all.split_at(BESIDE);
+    pub fn expect(mut self, seen: &mut Seen, what: &str, right: &[u8]) {
+        let (front, rest) = black_box(&mut self.0).split_at(BESIDE);
         let (part, back) = rest.split_at(rest.len() - BESIDE);
         seen.expect(what, right, part);
-        seen.expect(&format!("beside {what}"), &vec![beside; 2 * BESIDE], &[front, back].concat());
+        seen.expect(&format!("beside {what}"), &[BYTE; 2 * BESIDE][..], &[front, back].concat());
     }
-}
-
-/// Bytes, between ones that are seldom.
-pub fn bytes(bytes: &[u8]) -> Lent<u8> {
-    Lent::new(bytes, 0xa5)
-}
-
-/// A marking, between words that no marking of ours holds often.
-pub fn marking(marking: [u64; 3]) -> Lent<u64> {
-    Lent::new(&marking, 0x5555_aaaa_5555_aaaa)
 }

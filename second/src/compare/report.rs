@@ -14,7 +14,7 @@ pub struct Report {
     /// For each call, how often each kind of answer came.
     came: BTreeMap<&'static str, BTreeMap<u64, u64>>,
     /// For each floor, the step counts that came.
-    sizes: BTreeMap<&'static str, BTreeSet<u8>>,
+    sizes: BTreeMap<&'static str, BTreeSet<u64>>,
     differences: u64,
 }
 
@@ -29,7 +29,7 @@ impl Report {
         }
     }
 
-    pub fn count_size(&mut self, floor: &'static str, size: u8) {
+    pub fn count_size(&mut self, floor: &'static str, size: u64) {
         self.sizes.entry(floor).or_default().insert(size);
     }
 

@@ -1,24 +1,23 @@
 //! What was seen of one call.
 
-use second::data::{Graph, Marking};
+use crate::lent;
+use second::data::Graph;
 use second::{model, peer};
 use std::fmt::{self, Debug};
-use std::hint::black_box;
 
-/// A case, and the model's reading of its graph and marking, which is made once for all calls.
+/// A case, and the model's reading of its graph, which is made once for all calls.
 pub struct Input<C> {
     pub case: C,
     pub graph: model::Graph,
-    pub marking: model::Marking,
     /// The number of steps, if the graph is well-formed.
-    pub size: Option<u8>,
+    pub size: Option<u64>,
 }
 
 impl<C> Input<C> {
-    pub fn new(case: C, parts: fn(&C) -> (&Graph, &Marking)) -> Self {
-        let (graph, marking) = parts(&case);
-        let size = peer::check(graph).is_ok().then_some(graph.steps);
-        Input { graph: model::Graph::read(graph), marking: model::Marking::read(marking), case, size }
+    pub fn new(case: C, graph: fn(&C) -> &Graph) -> Self {
+        let given = graph(&case);
+        let size = (peer::check(given) == 0).then_some(given.steps);
+        Input { graph: model::Graph::read(given), case, size }
     }
 }
 
@@ -45,13 +44,17 @@ impl Seen {
         }
     }
 
-    /// Calls the box with a graph of its own and looks whether that is still the same afterwards.
-    pub fn lend<T>(&mut self, graph: &Graph, call: impl FnOnce(&Graph) -> T) -> T {
-        let mut lent = graph.clone();
-        let given = call(&lent);
-        // The compiler may take it that a lent graph is not written; it must be read again all the same.
-        let lent: &mut Graph = black_box(&mut lent);
-        self.expect("graph lent to ours", graph, lent);
-        given
+    /// Puts the graph before both. The box gets one of its own, which must be the same afterwards.
+    pub fn ask<A: PartialEq + Debug>(
+        &mut self,
+        graph: &Graph,
+        right: &A,
+        ours: impl FnOnce(&Graph) -> A,
+        peer: impl FnOnce(&Graph) -> A,
+    ) {
+        let lent = lent::Words::new(graph.clone());
+        self.expect("ours", right, &ours(&lent.content));
+        lent.expect(self, "the graph lent to ours", graph);
+        self.expect("peer", right, &peer(graph));
     }
 }

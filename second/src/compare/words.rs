@@ -1,49 +1,48 @@
 //! The answers in words, and how answers are told apart.
 
-use second::data::Answer;
+use second::data::{Ran, Tracked};
 
 /// An answer that a call can give: below 256 it is its number; answers of one number that are to be told apart differ by 256
 /// and its multiples.
 pub type Kind = (u64, &'static str);
 
-/// By its number alone, whatever else the answer holds.
-pub fn by_number(answer: Answer) -> u64 {
-    answer.number()
+/// By its number, and whether it came at the first entry or a later one.
+pub fn by_lateness(ran: Ran) -> u64 {
+    ran.number + 256 * u64::from(ran.entries > 0)
 }
 
-/// By its number, and when answered by its value too.
-pub fn by_value(answer: Answer) -> u64 {
-    if answer.number() == 0 {
-        256 * answer.value()
+/// By its number, and when answered by the flag.
+pub fn by_flag(tracked: Tracked) -> u64 {
+    if tracked.number == 0 {
+        256 * tracked.track.flag
     } else {
-        answer.number()
+        tracked.number
     }
 }
 
-/// By its number, and whether it came at the first entry or a later one.
-pub fn by_lateness(answer: Answer) -> u64 {
-    answer.number() + 256 * u64::from(answer.index() > 0)
-}
+pub const FLAGS: &[Kind] = &[(0, "flag down"), (256, "flag up")];
 
 pub const COUNTS: Kind = (2, "counts out of range");
+pub const BEYOND: Kind = (4, "a set beyond the counts");
+pub const BOTH: Kind = (6, "a pair includes and excludes");
 pub const LENGTH: Kind = (7, "bad length of a journal");
-pub const MARKING: Kind = (8, "marking beyond the graph");
-pub const RANK: Kind = (9, "rank out of range");
-pub const RECORD: Kind = (10, "record not well-formed");
+pub const OUTSIDE: Kind = (8, "marking beyond the graph");
+pub const NO_RANK: Kind = (9, "rank out of range");
+pub const ILL_FORMED: Kind = (10, "record not well-formed");
 pub const NOT_APPLIED: Kind = (16, "record does not apply");
 pub const ROOM: Kind = (18, "room too short");
 
 /// Of a graph.
-pub const GRAPH: &[Kind] = &[COUNTS, (4, "a set beyond the counts"), (6, "a pair includes and excludes")];
+pub const GRAPH: &[Kind] = &[COUNTS, BEYOND, BOTH];
 
 const UNKNOWN: Kind = (11, "unknown person, step or role");
 const NOT_HELD: Kind = (12, "person does not hold the role");
 const NOT_ON_STEP: Kind = (13, "step does not have the role");
-const NOT_INCLUDED: Kind = (14, "step not included");
+const EXCLUDED: Kind = (14, "step not included");
 const WAITS: Kind = (15, "step waits");
 
 /// Of a single entry.
-pub const ENTRY: &[Kind] = &[UNKNOWN, NOT_HELD, NOT_ON_STEP, NOT_INCLUDED, WAITS];
+pub const ENTRY: &[Kind] = &[UNKNOWN, NOT_HELD, NOT_ON_STEP, EXCLUDED, WAITS];
 
 /// Of the entries of a journal, by lateness.
 pub const ENTRIES: &[Kind] = &[
@@ -53,8 +52,8 @@ pub const ENTRIES: &[Kind] = &[
     later(NOT_HELD),
     NOT_ON_STEP,
     later(NOT_ON_STEP),
-    NOT_INCLUDED,
-    later(NOT_INCLUDED),
+    EXCLUDED,
+    later(EXCLUDED),
     WAITS,
     later(WAITS),
 ];

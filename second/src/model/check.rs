@@ -1,12 +1,11 @@
 use super::{graph::Pairs, lowest, Graph};
-use crate::data::Answer;
 
 /// 0 when the graph is well-formed, else 2, 4 or 6.
-pub fn check(g: &Graph) -> Answer {
-    Answer::new(refused(g, &[]), 0)
+pub fn check(g: &Graph) -> u64 {
+    refused(g, &[])
 }
 
-/// "A graph handed over as a value is checked for 2, 4 and 6 each time." The lowest of these and of more that hold, or 0.
+/// The lowest that holds of a graph's own numbers, which every call with a graph looks at, and of the call's others; or 0.
 pub fn refused(g: &Graph, more: &[(u64, bool)]) -> u64 {
     let numbers = [(2, counts_out_of_range(g)), (4, names_beyond(g)), (6, includes_and_excludes(g))];
     lowest(&[&numbers, more].concat())
@@ -18,7 +17,7 @@ pub fn counts_out_of_range(g: &Graph) -> bool {
 
 /// A pair that is not within the counts either names something beyond them or is stored for a number beyond them.
 fn names_beyond(g: &Graph) -> bool {
-    let outside = |pairs: &Pairs, first: usize, second: usize| pairs.iter().any(|(a, b)| *a >= first || *b >= second);
+    let outside = |pairs: &Pairs, first: u64, second: u64| pairs.iter().any(|(a, b)| *a >= first || *b >= second);
     outside(&g.allows, g.steps, g.roles)
         || outside(&g.holds, g.people, g.roles)
         || [&g.conditions, &g.responses, &g.includes, &g.excludes]

@@ -1,10 +1,11 @@
 use super::{check::refused, Graph, Marking};
-use crate::data::Answer;
+use crate::data::{self, Ending};
 
-/// "A job is finished when no step is both due and included." The value is 1 when finished.
-pub fn finished(g: &Graph, m: &Marking) -> Answer {
+/// A job is finished where nothing that is due is included.
+pub fn finished(g: &Graph, m: data::Marking) -> Ending {
+    let m = Marking::read(m);
     match refused(g, &[(8, m.names_beyond(g.steps))]) {
-        0 => Answer::new(0, m.due.is_disjoint(&m.included).into()),
-        number => Answer::new(number, 0),
+        0 => Ending { number: 0, finished: m.pending().is_empty().into() },
+        number => Ending { number, finished: 0 },
     }
 }

@@ -1,7 +1,6 @@
 use crate::data::Entry;
 
-/// "A journal is a run of 3-byte entries: person, step, role; at most 65,535 bytes." There are none to read where its length
-/// is bad, which is number 7.
+/// Three bytes an entry: person, step, role. There are none to read where the length is bad, which is number 7.
 pub fn entries(journal: &[u8]) -> Option<Vec<Entry>> {
     let lawful = journal.len().is_multiple_of(3) && journal.len() <= 65_535;
     let entry = |bytes: &[u8]| Entry { person: bytes[0], step: bytes[1], role: bytes[2] };

@@ -1,27 +1,30 @@
-use super::graph::members;
+use super::graph::{members, stored, Set};
 use crate::data;
-use std::collections::BTreeSet;
 
 /// Three sets of steps: Ex, Re, In.
 #[derive(Clone, PartialEq, Eq)]
 pub struct Marking {
-    pub done: BTreeSet<usize>,
-    pub due: BTreeSet<usize>,
-    pub included: BTreeSet<usize>,
+    pub done: Set,
+    pub due: Set,
+    pub included: Set,
 }
 
 impl Marking {
-    pub fn read(m: &data::Marking) -> Self {
-        let [done, due, included] = m.0;
-        Marking { done: members(done), due: members(due), included: members(included) }
+    pub fn read(m: data::Marking) -> Self {
+        Marking { done: members(m.done), due: members(m.due), included: members(m.included) }
     }
 
     pub fn write(&self) -> data::Marking {
-        data::Marking([&self.done, &self.due, &self.included].map(|set| set.iter().map(|s| 1 << s).sum()))
+        data::Marking { done: stored(&self.done), due: stored(&self.due), included: stored(&self.included) }
     }
 
     /// Number 8: the marking names a step beyond the graph.
-    pub fn names_beyond(&self, steps: usize) -> bool {
+    pub fn names_beyond(&self, steps: u64) -> bool {
         [&self.done, &self.due, &self.included].iter().any(|set| set.iter().any(|s| *s >= steps))
+    }
+
+    /// The steps due and included.
+    pub fn pending(&self) -> Set {
+        self.due.intersection(&self.included).copied().collect()
     }
 }

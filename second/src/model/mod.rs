@@ -1,5 +1,8 @@
-//! The independent program, written from document 01 in plain sets and lists of pairs. It is slow on purpose: each rule is the
-//! document's sentence and nothing else. Where it and another body differ, it is right.
+//! The independent program, written from document 01 in plain sets and lists of pairs. It is slow on purpose: each rule stands
+//! there as the document has it, and nothing is clever. Where it and another body differ, it is right.
+//!
+//! A call takes the model's own graph, so that one is read once for many calls, and otherwise what the border takes. It answers
+//! what the border answers; where that is written to lent memory, it gives the content, or the number of the refusal.
 
 mod check;
 mod finished;
@@ -16,16 +19,16 @@ mod walk;
 
 pub use check::check;
 pub use finished::finished;
-pub use graph::{members, Graph};
+pub use graph::{members, targets, Graph, Set};
 pub use journal::entries;
 pub use lap::lap;
 pub use marking::Marking;
 pub use run::run;
-pub use take::{take, waiting};
-pub use track::{pending, track_entry, track_idle, track_start, track_step};
+pub use take::{keep, take, waiting};
+pub use track::{track_entry, track_idle, track_start, track_step};
 pub use walk::Walk;
 
-/// "The lowest number that holds is given, per call": 0 if none of them holds.
+/// The lowest of these numbers that holds, 0 if none does.
 fn lowest(numbers: &[(u64, bool)]) -> u64 {
     numbers.iter().filter(|(_, holds)| *holds).map(|(number, _)| *number).min().unwrap_or(0)
 }

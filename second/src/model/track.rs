@@ -1,64 +1,69 @@
-use super::{check::refused, take::enter, Graph, Marking};
-use crate::data::{Answer, Entry};
-use std::collections::BTreeSet;
+use super::{
+    check::refused,
+    take::{enter, Refusal},
+    Graph, Marking, Set,
+};
+use crate::data::{self, Entry, Track, Tracked};
 
-/// "At the start i is 1 and the flag is up exactly if the job is finished." The value is the flag, the index is the rank.
-pub fn track_start(g: &Graph, m: &Marking) -> Answer {
-    match refused(g, &[(8, m.names_beyond(g.steps))]) {
-        0 => state(1, pending(m).is_empty()),
-        number => Answer::new(number, 0),
+/// Rank 1, and the flag tells whether the job is finished.
+pub fn track_start(g: &Graph, m: data::Marking) -> Tracked {
+    match refused(g, &[(8, Marking::read(m).names_beyond(g.steps))]) {
+        0 => rest(m, 1),
+        number => Tracked { number, ..Tracked::default() },
     }
 }
 
-/// "An idle move keeps marking and i, and sets the flag by the finished test."
-pub fn track_idle(g: &Graph, m: &Marking, rank: u8) -> Answer {
-    match refused(g, &numbers(g, m, rank)) {
-        0 => state(rank.into(), pending(m).is_empty()),
-        number => Answer::new(number, 0),
+/// Nothing is done: marking and rank stay, and the flag tells whether the job is finished.
+pub fn track_idle(g: &Graph, track: Track) -> Tracked {
+    match refused(g, &numbers(g, track)) {
+        0 => rest(track.marking, track.rank),
+        number => Tracked { number, ..Tracked::default() },
     }
 }
 
-/// The answer and the marking afterwards, which is the one handed in when the step is refused.
-pub fn track_step(g: &Graph, m: &Marking, rank: u8, entry: Entry) -> (Answer, Marking) {
-    match refused(g, &numbers(g, m, rank)) {
-        0 => track_entry(g, m, rank, entry),
-        number => (Answer::new(number, 0), m.clone()),
+pub fn track_step(g: &Graph, track: Track, entry: Entry) -> Tracked {
+    match refused(g, &numbers(g, track)) {
+        0 => track_entry(g, track, entry),
+        number => Tracked { number, ..Tracked::default() },
     }
 }
 
 /// The same where graph, marking and rank are as they should be: only the entry is looked at.
-pub fn track_entry(g: &Graph, m: &Marking, rank: u8, entry: Entry) -> (Answer, Marking) {
-    match enter(g, m, entry) {
-        (Answer(0), after) => (go_along(&pending(m), &pending(&after), rank.into(), entry.step.into()), after),
-        refusal => refusal,
+pub fn track_entry(g: &Graph, track: Track, entry: Entry) -> Tracked {
+    let before = Marking::read(track.marking);
+    match enter(g, &before, entry) {
+        Ok(after) => {
+            let (rank, flag) = go_along(&before.pending(), &after.pending(), track.rank, entry.step.into());
+            at(Track { marking: after.write(), rank, flag: flag.into() })
+        }
+        Err(Refusal { number, waiting }) => Tracked { number, waiting, track },
     }
 }
 
-fn numbers(g: &Graph, m: &Marking, rank: u8) -> [(u64, bool); 2] {
-    [(8, m.names_beyond(g.steps)), (9, !(1..=g.steps).contains(&rank.into()))]
+fn numbers(g: &Graph, track: Track) -> [(u64, bool); 2] {
+    [(8, Marking::read(track.marking).names_beyond(g.steps)), (9, !(1..=g.steps).contains(&track.rank))]
 }
 
-/// "For a step e, let P be the steps due and included before, P'' after, and H those of P with rank above i. Let x be the lowest
-/// of H, or if H is empty the lowest of P. If x exists and x is e or is not in P'', then i becomes x's rank and the flag is up.
-/// Otherwise i stays and the flag is up exactly if P'' is empty."
-fn go_along(before: &BTreeSet<usize>, after: &BTreeSet<usize>, i: usize, e: usize) -> Answer {
-    let x = before.iter().find(|s| rank_of(**s) > i).or(before.first());
-    match x {
-        Some(x) if *x == e || !after.contains(x) => state(rank_of(*x), true),
-        _ => state(i, after.is_empty()),
+/// The next rank and flag. Of what was pending before the step, one has its turn: the lowest above rank i, or the lowest of all
+/// where none is above. Has it been done, or is it pending no more, then the rank goes to it and the flag is up. Otherwise the
+/// rank stays, and the flag is up where nothing is pending any more.
+fn go_along(before: &Set, after: &Set, i: u64, e: u64) -> (u64, bool) {
+    let turn = before.iter().find(|s| rank_of(**s) > i).or(before.first());
+    match turn {
+        Some(x) if *x == e || !after.contains(x) => (rank_of(*x), true),
+        _ => (i, after.is_empty()),
     }
 }
 
-/// "Step s has rank s + 1."
-fn rank_of(s: usize) -> usize {
+/// Ranks count from 1.
+fn rank_of(s: u64) -> u64 {
     s + 1
 }
 
-/// The steps due and included.
-pub fn pending(m: &Marking) -> BTreeSet<usize> {
-    m.due.intersection(&m.included).copied().collect()
+fn rest(marking: data::Marking, rank: u64) -> Tracked {
+    at(Track { marking, rank, flag: Marking::read(marking).pending().is_empty().into() })
 }
 
-fn state(rank: usize, flag: bool) -> Answer {
-    Answer::new(0, flag.into()).at(rank)
+fn at(track: Track) -> Tracked {
+    Tracked { track, ..Tracked::default() }
 }

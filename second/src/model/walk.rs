@@ -1,8 +1,8 @@
 use super::journal::entries;
-use crate::data::{Answer, Entry};
+use crate::data::{Entry, Walked};
 
-/// "A journal walk keeps hold of the lent journal and its place in it, and hands out one entry at a time; after the last it says
-/// so and stays put. Over a journal of bad length each call gives 7."
+/// Holds a journal and a place in it, and hands out an entry at a time. At the end it stays, and over a journal of bad length it
+/// says 7 each time.
 pub struct Walk {
     entries: Option<Vec<Entry>>,
     place: u64,
@@ -17,17 +17,20 @@ impl Walk {
         self.place
     }
 
-    /// What a walk at this place hands out: value 1 and the entry, or value 0 at the end and anywhere beyond it.
-    pub fn at(&self, place: u64) -> Answer {
+    /// What a walk at this place hands out. From the number of entries on every place is the end.
+    pub fn at(&self, place: u64) -> Walked {
         let Some(entries) = &self.entries else {
-            return Answer::new(7, 0);
+            return Walked { number: 7, ..Walked::default() };
         };
-        Answer::handed_out(usize::try_from(place).ok().and_then(|place| entries.get(place).copied()))
+        match usize::try_from(place).ok().and_then(|place| entries.get(place)) {
+            Some(entry) => Walked { entry: *entry, ..Walked::default() },
+            None => Walked { ended: 1, ..Walked::default() },
+        }
     }
 
-    pub fn hand_out(&mut self) -> Answer {
-        let answer = self.at(self.place);
-        self.place += answer.value();
-        answer
+    pub fn hand_out(&mut self) -> Walked {
+        let walked = self.at(self.place);
+        self.place += u64::from(walked.number == 0 && walked.ended == 0);
+        walked
     }
 }

@@ -1,12 +1,9 @@
-use super::{
-    check::{check, inside},
-    Refusal,
-};
-use crate::data::{Graph, Marking};
+use super::check::sound;
+use crate::data::{Ending, Graph, Marking};
 
-pub fn finished(g: &Graph, m: &Marking) -> Result<bool, Refusal> {
-    check(g)?;
-    inside(g.steps, m)?;
-    let [_, due, included] = m.0;
-    Ok(due & included == 0)
+pub fn finished(g: &Graph, m: Marking) -> Ending {
+    match sound(g, m) {
+        Ok(()) => Ending { number: 0, finished: (m.due & m.included == 0).into() },
+        Err(refusal) => Ending { number: refusal.number(), finished: 0 },
+    }
 }

@@ -1,4 +1,5 @@
-//! The same calls as they would be written for speed in safe Rust: sets are words, a refusal is an early return.
+//! The same calls as they would be written for speed in safe Rust: sets are words, a refusal is an early return. They take and
+//! answer what crosses the border.
 
 mod check;
 mod finished;
@@ -9,16 +10,15 @@ mod refusal;
 mod run;
 pub mod sheet;
 mod take;
-mod tell;
 mod track;
 mod walk;
 
 pub use check::check;
 pub use finished::finished;
-pub use lap::{lap, Verdict};
-pub use refusal::{Refusal, Stop};
+pub use lap::lap;
 pub use run::run;
-pub use take::take;
-pub use tell::{tell_run, Tell};
-pub use track::{track_idle, track_start, track_step, Track};
-pub use walk::Walk;
+pub use take::{keep, take};
+pub use track::{track_idle, track_start, track_step};
+pub use walk::walk;
+
+use refusal::{number, Refusal};

@@ -1,24 +1,36 @@
 use super::{
-    check::{check, inside},
+    check::{inside, well_formed},
     journal::{entries, entry},
     take::enter,
-    Stop,
+    Refusal,
 };
-use crate::data::{Graph, Marking};
+use crate::data::{Graph, Marking, Ran};
 
-/// Moves the marking by every entry and gives their number, or leaves it as it is.
-pub fn run(g: &Graph, m: &mut Marking, journal: &[u8]) -> Result<usize, Stop> {
-    check(g)?;
+pub fn run(g: &Graph, m: Marking, journal: &[u8]) -> Ran {
+    match ready(g, m, journal) {
+        Ok(entries) => run_entries(g, m, entries),
+        Err(refusal) => Ran { number: refusal.number(), ..Ran::default() },
+    }
+}
+
+/// The entries, if graph, journal and marking are as they should be.
+pub fn ready<'a>(g: &Graph, m: Marking, journal: &'a [u8]) -> Result<&'a [[u8; 3]], Refusal> {
+    well_formed(g)?;
     let entries = entries(journal)?;
     inside(g.steps, m)?;
-    *m = run_entries(g, *m, entries)?;
-    Ok(entries.len())
+    Ok(entries)
 }
 
 /// The run on a graph and a marking that have been checked.
-pub fn run_entries(g: &Graph, mut m: Marking, entries: &[[u8; 3]]) -> Result<Marking, Stop> {
+pub fn run_entries(g: &Graph, mut m: Marking, entries: &[[u8; 3]]) -> Ran {
     for (index, bytes) in entries.iter().enumerate() {
-        m = enter(g, m, entry(bytes)).map_err(|refusal| Stop::entry(index, refusal, m))?;
+        match enter(g, m, entry(bytes)) {
+            Ok(after) => m = after,
+            Err(refusal) => {
+                let (number, waiting) = (refusal.number(), refusal.waiting());
+                return Ran { number, waiting, entries: index as u64, marking: m };
+            }
+        }
     }
-    Ok(m)
+    Ran { number: 0, waiting: 0, entries: entries.len() as u64, marking: m }
 }

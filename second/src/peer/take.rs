@@ -1,26 +1,39 @@
-use super::{
-    check::{check, inside},
-    Refusal,
-};
-use crate::data::{Entry, Graph, Marking};
+use super::{check::sound, Refusal};
+use crate::data::{Entry, Graph, Kept, Marking, Moved};
 
-/// Moves the marking where it lies, or leaves it as it is and says why.
-pub fn take(g: &Graph, m: &mut Marking, e: Entry) -> Result<(), Refusal> {
-    check(g)?;
-    inside(g.steps, m)?;
-    *m = enter(g, *m, e)?;
-    Ok(())
+pub fn take(g: &Graph, m: Marking, e: Entry) -> Moved {
+    match taken(g, m, e) {
+        Ok(marking) => Moved { number: 0, waiting: 0, marking },
+        Err(refusal) => Moved { number: refusal.number(), waiting: refusal.waiting(), marking: refusal.leaves(m) },
+    }
+}
+
+/// Moves the marking where it lies, or leaves it as it is.
+pub fn keep(g: &Graph, m: &mut Marking, e: Entry) -> Kept {
+    match taken(g, *m, e) {
+        Ok(after) => {
+            *m = after;
+            Kept { number: 0, waiting: 0 }
+        }
+        Err(refusal) => Kept { number: refusal.number(), waiting: refusal.waiting() },
+    }
+}
+
+#[inline]
+fn taken(g: &Graph, m: Marking, e: Entry) -> Result<Marking, Refusal> {
+    sound(g, m)?;
+    enter(g, m, e)
 }
 
 /// The move on a graph and a marking that have been checked.
 #[inline]
 pub fn enter(g: &Graph, m: Marking, e: Entry) -> Result<Marking, Refusal> {
-    if e.person >= g.people || e.step >= g.steps || e.role >= g.roles {
+    if u64::from(e.person) >= g.people || u64::from(e.step) >= g.steps || u64::from(e.role) >= g.roles {
         return Err(Refusal::Unknown);
     }
     let (person, step) = (usize::from(e.person), usize::from(e.step));
-    let (this, role) = (1u64 << e.step, 1u16 << e.role);
-    let [done, due, included] = m.0;
+    let (this, role) = (1u64 << e.step, 1u64 << e.role);
+    let Marking { done, due, included } = m;
     if g.holds[person] & role == 0 {
         return Err(Refusal::NotHeld);
     }
@@ -28,11 +41,15 @@ pub fn enter(g: &Graph, m: Marking, e: Entry) -> Result<Marking, Refusal> {
         return Err(Refusal::NotOnStep);
     }
     if included & this == 0 {
-        return Err(Refusal::NotIncluded);
+        return Err(Refusal::Excluded);
     }
     let waiting = g.conditions[step] & included & !done;
     if waiting != 0 {
         return Err(Refusal::Waits(waiting.trailing_zeros() as u8));
     }
-    Ok(Marking([done | this, (due & !this) | g.responses[step], (included | g.includes[step]) & !g.excludes[step]]))
+    Ok(Marking {
+        done: done | this,
+        due: (due & !this) | g.responses[step],
+        included: (included | g.includes[step]) & !g.excludes[step],
+    })
 }

@@ -1,57 +1,70 @@
 use super::{
-    check::{check, first, inside},
+    check::{first, sound},
     take::enter,
     Refusal,
 };
-use crate::data::{Entry, Graph, Marking};
+use crate::data::{Entry, Graph, Marking, Track, Tracked};
 
-/// Where the tracker is besides the marking.
-#[derive(Clone, Copy, PartialEq, Eq, Debug)]
-pub struct Track {
-    /// From 1 to the number of steps.
-    pub rank: u8,
-    pub flag: bool,
+pub fn track_start(g: &Graph, m: Marking) -> Tracked {
+    told(started(g, m), Track::default())
 }
 
-pub fn track_start(g: &Graph, m: &Marking) -> Result<Track, Refusal> {
-    check(g)?;
-    inside(g.steps, m)?;
-    Ok(Track { rank: 1, flag: pending(m) == 0 })
+pub fn track_idle(g: &Graph, track: Track) -> Tracked {
+    told(idled(g, track), track)
 }
 
-pub fn track_idle(g: &Graph, m: &Marking, track: Track) -> Result<Track, Refusal> {
-    checked(g, m, track)?;
-    Ok(Track { flag: pending(m) == 0, ..track })
+/// Moves the marking and goes along.
+pub fn track_step(g: &Graph, track: Track, e: Entry) -> Tracked {
+    told(stepped(g, track, e), track)
 }
 
-/// Moves the marking where it lies and goes along, or leaves it as it is.
-pub fn track_step(g: &Graph, m: &mut Marking, track: Track, e: Entry) -> Result<Track, Refusal> {
-    checked(g, m, track)?;
-    let after = enter(g, *m, e)?;
-    let (before, left) = (pending(m), pending(&after));
-    *m = after;
+#[inline]
+fn told(tracked: Result<Track, Refusal>, handed_in: Track) -> Tracked {
+    match tracked {
+        Ok(track) => Tracked { number: 0, waiting: 0, track },
+        Err(refusal) => {
+            Tracked { number: refusal.number(), waiting: refusal.waiting(), track: refusal.leaves(handed_in) }
+        }
+    }
+}
+
+#[inline]
+fn started(g: &Graph, m: Marking) -> Result<Track, Refusal> {
+    sound(g, m)?;
+    Ok(Track { marking: m, rank: 1, flag: (pending(m) == 0).into() })
+}
+
+#[inline]
+fn idled(g: &Graph, track: Track) -> Result<Track, Refusal> {
+    ranked(g, track)?;
+    Ok(Track { flag: (pending(track.marking) == 0).into(), ..track })
+}
+
+#[inline]
+fn stepped(g: &Graph, track: Track, e: Entry) -> Result<Track, Refusal> {
+    ranked(g, track)?;
+    let marking = enter(g, track.marking, e)?;
+    let (before, left) = (pending(track.marking), pending(marking));
     let above = before & !first(track.rank);
     let next = if above != 0 { above } else { before };
     // The lowest alone, or nothing.
     let x = next & next.wrapping_neg();
     if x & (!left | 1 << e.step) != 0 {
-        return Ok(Track { rank: x.trailing_zeros() as u8 + 1, flag: true });
+        return Ok(Track { marking, rank: u64::from(x.trailing_zeros()) + 1, flag: 1 });
     }
-    Ok(Track { flag: left == 0, ..track })
+    Ok(Track { marking, rank: track.rank, flag: (left == 0).into() })
 }
 
-fn checked(g: &Graph, m: &Marking, track: Track) -> Result<(), Refusal> {
-    check(g)?;
-    inside(g.steps, m)?;
-    if (1..=g.steps).contains(&track.rank) {
-        Ok(())
-    } else {
-        Err(Refusal::Rank)
+#[inline]
+fn ranked(g: &Graph, track: Track) -> Result<(), Refusal> {
+    sound(g, track.marking)?;
+    if !(1..=g.steps).contains(&track.rank) {
+        return Err(Refusal::NoRank);
     }
+    Ok(())
 }
 
 /// The steps due and included.
-fn pending(m: &Marking) -> u64 {
-    let [_, due, included] = m.0;
-    due & included
+fn pending(m: Marking) -> u64 {
+    m.due & m.included
 }

@@ -1,24 +1,14 @@
-use super::{
-    journal::{entries, entry},
-    Refusal,
-};
-use crate::data::Entry;
+use super::journal::{entries, entry};
+use crate::data::Walked;
 
-/// Goes through a journal, one entry at a time.
-pub struct Walk<'a> {
-    journal: &'a [u8],
-    place: usize,
-}
-
-impl<'a> Walk<'a> {
-    pub fn new(journal: &'a [u8], place: usize) -> Self {
-        Walk { journal, place }
-    }
-
-    /// The next entry, or none at the end, where the walk stays.
-    pub fn hand_out(&mut self) -> Result<Option<Entry>, Refusal> {
-        let found = entries(self.journal)?.get(self.place).map(entry);
-        self.place += usize::from(found.is_some());
-        Ok(found)
+/// The entry at a place, or the end.
+pub fn walk(journal: &[u8], place: u64) -> Walked {
+    let entries = match entries(journal) {
+        Ok(entries) => entries,
+        Err(refusal) => return Walked { number: refusal.number(), ..Walked::default() },
+    };
+    match usize::try_from(place).ok().and_then(|place| entries.get(place)) {
+        Some(bytes) => Walked { entry: entry(bytes), ..Walked::default() },
+        None => Walked { ended: 1, ..Walked::default() },
     }
 }

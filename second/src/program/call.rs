@@ -12,7 +12,7 @@ pub struct Told {
 /// The words of a call, sorted by what they are.
 #[derive(Default)]
 struct Given<'a> {
-    n: u8,
+    n: u64,
     inputs: Vec<(&'static str, &'a str)>,
     out: Option<&'a str>,
     force: bool,
@@ -70,10 +70,10 @@ fn given<'a>(command: &Command, words: &'a [String]) -> Option<Given<'a>> {
     (fits && names_out).then_some(given)
 }
 
-/// "A number above 255 is taken as 255 (and so refused by 2)."
-fn number(word: &str) -> Option<u8> {
+/// A number that is too large for a word is taken as the largest, and so refused by 2.
+fn number(word: &str) -> Option<u64> {
     let digits = !word.is_empty() && word.bytes().all(|byte| byte.is_ascii_digit());
-    digits.then(|| word.parse().unwrap_or(255))
+    digits.then(|| word.parse().unwrap_or(u64::MAX))
 }
 
 fn input(kind: &str, name: &str) -> Result<Vec<u8>, String> {

@@ -1,8 +1,8 @@
 //! What an answer looks like: lines `key: value`.
 
 use super::refusals;
-use crate::data::{Answer, Entry};
-use crate::model::{members, pending, Marking};
+use crate::data::{Entry, Record, Track};
+use crate::model::{members, Marking};
 use std::fmt::{Display, Write};
 
 const SETS: [&str; 8] = [
@@ -26,15 +26,15 @@ impl Lines {
     }
 
     /// A refusal's own line.
-    pub fn refused(answer: Answer) -> Self {
-        Lines::default().say("refused", format_args!("{} {}", answer.number(), refusals::words(answer.number())))
+    pub fn refused(number: u64) -> Self {
+        Lines::default().say("refused", format_args!("{number} {}", refusals::words(number)))
     }
 
-    /// The entry that was refused, and the lowest step that it waits for where that is the reason.
-    pub fn refused_entry(self, answer: Answer, entry: Entry) -> Self {
-        let lines = self.say(format_args!("entry {}", answer.index()), words_of(entry));
-        if answer.number() == 15 {
-            return lines.say("waits for", answer.value());
+    /// The entry that was refused with this number, and the step that it waits for where that is the reason.
+    pub fn refused_entry(self, index: u64, entry: Entry, number: u64, waiting: u64) -> Self {
+        let lines = self.say(format_args!("entry {index}"), words_of(entry));
+        if number == 15 {
+            return lines.say("waits for", waiting);
         }
         lines
     }
@@ -44,7 +44,7 @@ impl Lines {
     }
 
     pub fn ending(self, m: &Marking) -> Self {
-        let to_do = pending(m);
+        let to_do = m.pending();
         if to_do.is_empty() {
             return self.say("finished", "yes");
         }
@@ -52,15 +52,16 @@ impl Lines {
     }
 
     /// Never, then the eight sets.
-    pub fn record(self, [never, sets @ ..]: &[u64; 9]) -> Self {
-        let lines = self.say("never", if *never == 0 { "no" } else { "yes" });
-        SETS.iter().zip(sets).fold(lines, |lines, (name, word)| lines.say(name, set(&members(*word))))
+    pub fn record(self, record: &Record) -> Self {
+        let [never, sets @ ..] = record.words();
+        let lines = self.say("never", if never == 0 { "no" } else { "yes" });
+        SETS.iter().zip(sets).fold(lines, |lines, (name, word)| lines.say(name, set(&members(word))))
     }
 }
 
-/// "Its numbers from 0, ascending, separated by one space, or `none`."
-pub fn set<'a>(members: impl IntoIterator<Item = &'a usize>) -> String {
-    let numbers: Vec<String> = members.into_iter().map(usize::to_string).collect();
+/// The numbers in ascending order with a space between, or `none`.
+pub fn set<'a>(members: impl IntoIterator<Item = &'a u64>) -> String {
+    let numbers: Vec<String> = members.into_iter().map(u64::to_string).collect();
     if numbers.is_empty() {
         return "none".into();
     }
@@ -71,13 +72,12 @@ pub fn words_of(entry: Entry) -> String {
     format!("person {}, step {}, role {}", entry.person, entry.step, entry.role)
 }
 
-/// Rank and flag of a tracker's answer.
-pub fn rank_and_flag(answer: Answer) -> String {
-    format!("rank {}, flag {}", answer.index(), flag(answer))
+pub fn rank_and_flag(track: Track) -> String {
+    format!("rank {}, flag {}", track.rank, flag(track))
 }
 
-pub fn flag(answer: Answer) -> &'static str {
-    if answer.value() == 0 {
+pub fn flag(track: Track) -> &'static str {
+    if track.flag == 0 {
         "down"
     } else {
         "up"

@@ -29,7 +29,7 @@ enum Answers {
     One(fn(&[u8]) -> Reply),
     Two(fn(&[u8], &[u8]) -> Reply),
     Three(fn(&[u8], &[u8], &[u8]) -> Reply),
-    Counted(fn(u8, &[u8], &[u8]) -> Reply),
+    Counted(fn(u64, &[u8], &[u8]) -> Reply),
 }
 
 use Answers::{Counted, One, Three, Two};

@@ -2,7 +2,7 @@ use super::{
     lines::{set, Lines},
     Reply,
 };
-use crate::model::{self, Graph, Marking};
+use crate::model::{self, targets, Graph, Marking};
 
 /// More than any sheet is long.
 const ROOM: usize = 40_000;
@@ -26,7 +26,7 @@ pub fn show(sheet: &[u8]) -> Reply {
 
 pub fn write(sheet: &[u8]) -> Reply {
     let (g, m) = read(sheet)?;
-    let written = model::sheet::write(&g, &m, ROOM).map_err(Lines::refused)?;
+    let written = model::sheet::write(&g, m.write(), ROOM).map_err(Lines::refused)?;
     Ok((Lines::default(), written))
 }
 
@@ -40,14 +40,14 @@ fn arrows(g: &Graph) -> usize {
 
 fn people(lines: Lines, g: &Graph) -> Lines {
     (0..g.people).fold(lines, |lines, person| {
-        let roles = set(&Graph::targets(&g.holds, person));
+        let roles = set(&targets(&g.holds, person));
         lines.say(format_args!("person {person}"), format_args!("roles {roles}"))
     })
 }
 
 fn steps(lines: Lines, g: &Graph, m: &Marking) -> Lines {
     (0..g.steps).fold(lines, |lines, step| {
-        let roles = set(&Graph::targets(&g.allows, step));
+        let roles = set(&targets(&g.allows, step));
         let included = if m.included.contains(&step) { "included" } else { "excluded" };
         let done = if m.done.contains(&step) { ", done" } else { "" };
         let due = if m.due.contains(&step) { ", due" } else { "" };

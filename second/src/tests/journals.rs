@@ -1,6 +1,6 @@
-use super::{answers, written, Both};
+use super::{answers, ran, written, Both};
 use crate::cases::{journals, Dice};
-use crate::data::{Answer, Entry};
+use crate::data::{Entry, Ran, Walked};
 use crate::sample::{self, CHECK, CHECKED, PUBLISH, REBOOT, REBOOTED, START};
 use crate::{model, peer};
 use std::collections::BTreeSet;
@@ -9,30 +9,36 @@ use std::collections::BTreeSet;
 fn samples_1_to_4_as_journals() {
     let job = Both::new(sample::graph());
     let run = |entries: &[Entry]| job.run(START, &written(entries));
-    assert_eq!(run(&[]), (Answer(0), START));
-    assert_eq!(run(&[PUBLISH]), (Answer::new(15, 1), START), "S1");
-    assert_eq!(run(&[REBOOT]), (Answer(0).at(1), REBOOTED), "S2");
-    assert_eq!(run(&[REBOOT, PUBLISH, CHECK]), (Answer::new(14, 0).at(1), REBOOTED), "S3");
-    assert_eq!(run(&[REBOOT, CHECK]), (Answer(0).at(2), CHECKED), "S4");
+    assert_eq!(run(&[]), ran(0, START));
+    assert_eq!(run(&[PUBLISH]), Ran { number: 15, waiting: 1, entries: 0, marking: START }, "S1");
+    assert_eq!(run(&[REBOOT]), ran(1, REBOOTED), "S2");
+    assert_eq!(run(&[REBOOT, PUBLISH, CHECK]), Ran { number: 14, waiting: 0, entries: 1, marking: REBOOTED }, "S3");
+    assert_eq!(run(&[REBOOT, CHECK]), ran(2, CHECKED), "S4");
 }
 
 #[test]
 fn bad_lengths() {
     let job = Both::new(sample::graph());
     for length in [1, 2, 4, 65_534, 65_536, 65_538] {
-        assert_eq!(job.run(START, &vec![0; length]), (Answer(7), START), "{length} bytes");
-        assert_eq!(model::Walk::new(&vec![0; length]).at(0), Answer(7), "{length} bytes");
+        let journal = vec![0; length];
+        assert_eq!(job.run(START, &journal), Ran { number: 7, ..Ran::default() }, "{length} bytes");
+        let refused = Walked { number: 7, ..Walked::default() };
+        assert_eq!([model::Walk::new(&journal).at(0), peer::walk(&journal, 0)], [refused; 2], "{length} bytes");
     }
-    assert_eq!(job.run(START, &[0; 65_535]).0, Answer(0).at(21_845), "rebooting without end");
+    assert_eq!(job.run(START, &[0; 65_535]).entries, 21_845, "rebooting without end");
 }
 
 #[test]
 fn a_walk_hands_out_each_entry_and_stays_at_the_end() {
     let journal = written(&[REBOOT, PUBLISH]);
-    let (mut model, mut peer) = (model::Walk::new(&journal), peer::Walk::new(&journal, 0));
-    assert_eq!([(); 4].map(|()| model.hand_out().0), [0x100, 0x1_0201_0100, 0, 0]);
-    assert_eq!([(); 4].map(|()| peer.hand_out()), [Ok(Some(REBOOT)), Ok(Some(PUBLISH)), Ok(None), Ok(None)]);
-    assert_eq!(model::Walk::new(&journal).at(u64::MAX / 3 + 1), Answer(0), "three times the place comes round");
+    let [first, second] = [REBOOT, PUBLISH].map(|entry| Walked { number: 0, ended: 0, entry });
+    let end = Walked { ended: 1, ..Walked::default() };
+    let mut walk = model::Walk::new(&journal);
+    assert_eq!([(); 4].map(|()| walk.hand_out()), [first, second, end, end]);
+    // Three times the last place comes round.
+    let places = [0, 1, 2, 3, u64::MAX / 3 + 1];
+    assert_eq!(places.map(|place| walk.at(place)), [first, second, end, end, end]);
+    assert_eq!(places.map(|place| peer::walk(&journal, place)), [first, second, end, end, end]);
 }
 
 #[test]
@@ -40,7 +46,7 @@ fn the_bodies_agree_and_every_number_comes_up() {
     let mut came = BTreeSet::new();
     for case in 0..2_000 {
         let case = journals::make(&mut Dice::new(8, case));
-        came.insert(("run", Both::new(case.graph).run(case.marking, &case.journal).0.number()));
+        came.insert(("run", Both::new(case.graph).run(case.marking, &case.journal).number));
     }
     assert_eq!(came, answers("run", &[0, 2, 4, 6, 7, 8, 11, 12, 13, 14, 15]));
 }

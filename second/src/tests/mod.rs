@@ -6,21 +6,26 @@ mod program;
 mod records;
 mod rules;
 mod sheets;
+mod sizes;
 mod tracker;
 
-use crate::data::{Answer, Entry, Graph, Marking};
-use crate::model;
-use crate::peer::{self, Tell, Track};
+use crate::data::{Ending, Entry, Graph, Kept, Lapped, Marking, Moved, Ran, Track, Tracked};
+use crate::{model, peer};
 use std::collections::BTreeSet;
 
-/// The answers that a call must have given.
-fn answers(call: &'static str, answers: &[u64]) -> BTreeSet<(&'static str, u64)> {
-    answers.iter().map(|answer| (call, *answer)).collect()
+/// The numbers that a call must have given.
+fn answers(call: &'static str, numbers: &[u64]) -> BTreeSet<(&'static str, u64)> {
+    numbers.iter().map(|number| (call, *number)).collect()
 }
 
 /// The bytes of these entries.
 fn written(entries: &[Entry]) -> Vec<u8> {
     entries.iter().flat_map(|e| [e.person, e.step, e.role]).collect()
+}
+
+/// The entries passed, and led to this marking.
+fn ran(entries: u64, marking: Marking) -> Ran {
+    Ran { entries, marking, ..Ran::default() }
 }
 
 /// A graph as both bodies read it. Each call sees that they agree and gives the model's answer.
@@ -34,75 +39,63 @@ impl Both {
         Both { plain: model::Graph::read(&graph), graph }
     }
 
-    fn check(&self) -> Answer {
-        let right = model::check(&self.plain);
-        assert_eq!(peer::check(&self.graph).tell(), right);
-        right
+    fn check(&self) -> u64 {
+        alike(model::check(&self.plain), peer::check(&self.graph))
     }
 
-    fn take(&self, m: Marking, e: Entry) -> (Answer, Marking) {
-        let (answer, after) = model::take(&self.plain, &model::Marking::read(&m), e);
-        let mut marking = m;
-        let peer = peer::take(&self.graph, &mut marking, e);
-        assert_eq!((peer.tell(), marking), (answer, after.write()));
-        (answer, marking)
+    fn take(&self, m: Marking, e: Entry) -> Moved {
+        let moved = alike(model::take(&self.plain, m, e), peer::take(&self.graph, m, e));
+        let (mut by_model, mut by_peer) = (m, m);
+        let kept = alike(model::keep(&self.plain, &mut by_model, e), peer::keep(&self.graph, &mut by_peer, e));
+        assert_eq!(kept, Kept { number: moved.number, waiting: moved.waiting }, "kept as moved");
+        assert_eq!(alike(by_model, by_peer), if moved.number == 0 { moved.marking } else { m }, "where it lies");
+        moved
     }
 
-    fn run(&self, m: Marking, journal: &[u8]) -> (Answer, Marking) {
-        let (answer, marking) = model::run(&self.plain, &model::Marking::read(&m), journal);
-        let mut after = m;
-        let ran = peer::run(&self.graph, &mut after, journal);
-        let peer = peer::tell_run(ran, after);
-        assert_eq!(peer, (answer, marking.write()));
-        peer
+    fn finished(&self, m: Marking) -> Ending {
+        alike(model::finished(&self.plain, m), peer::finished(&self.graph, m))
     }
 
-    fn fold(&self, journal: &[u8]) -> Result<[u8; 65], Answer> {
-        let right = model::record::fold(&self.plain, journal);
-        let mut out = [0; 65];
-        let peer = peer::record::fold(&self.graph, journal, &mut out).map(|()| out);
-        assert_eq!(peer.map_err(Answer::from), right);
-        right
+    fn run(&self, m: Marking, journal: &[u8]) -> Ran {
+        alike(model::run(&self.plain, m, journal), peer::run(&self.graph, m, journal))
     }
 
-    fn restore(&self, record: &[u8], journal: &[u8], m: Marking) -> (Answer, Marking) {
-        let (answer, marking) = model::record::restore(&self.plain, record, journal, &model::Marking::read(&m));
-        let mut after = m;
-        let restored = peer::record::restore(&self.graph, record, journal, &mut after);
-        let peer = peer::tell_run(restored, after);
-        assert_eq!(peer, (answer, marking.write()));
-        peer
+    fn fold(&self, journal: &[u8]) -> Result<[u8; 65], u64> {
+        filled(model::record::fold(&self.plain, journal), |out| peer::record::fold(&self.graph, journal, out))
     }
 
-    fn lap(&self, m: Marking, stem: &[u8], lap: &[u8]) -> Answer {
-        let right = model::lap(&self.plain, &model::Marking::read(&m), stem, lap);
-        assert_eq!(peer::lap(&self.graph, &m, stem, lap).tell(), right);
-        right
+    fn restore(&self, record: &[u8], journal: &[u8], m: Marking) -> Ran {
+        let right = model::record::restore(&self.plain, record, journal, m);
+        alike(right, peer::record::restore(&self.graph, record, journal, m))
     }
 
-    fn track_start(&self, m: Marking) -> Answer {
-        let right = model::track_start(&self.plain, &model::Marking::read(&m));
-        assert_eq!(peer::track_start(&self.graph, &m).tell(), right);
-        right
+    fn lap(&self, m: Marking, stem: &[u8], lap: &[u8]) -> Lapped {
+        alike(model::lap(&self.plain, m, stem, lap), peer::lap(&self.graph, m, stem, lap))
     }
 
-    fn track_idle(&self, m: Marking, rank: u8) -> Answer {
-        let right = model::track_idle(&self.plain, &model::Marking::read(&m), rank);
-        assert_eq!(peer::track_idle(&self.graph, &m, Track { rank, flag: true }).tell(), right);
-        right
+    fn track_start(&self, m: Marking) -> Tracked {
+        alike(model::track_start(&self.plain, m), peer::track_start(&self.graph, m))
     }
 
-    fn track_step(&self, m: Marking, rank: u8, e: Entry) -> (Answer, Marking) {
-        let (answer, after) = model::track_step(&self.plain, &model::Marking::read(&m), rank, e);
-        let mut marking = m;
-        let peer = peer::track_step(&self.graph, &mut marking, Track { rank, flag: false }, e);
-        assert_eq!((peer.tell(), marking), (answer, after.write()));
-        (answer, marking)
+    fn track_idle(&self, track: Track) -> Tracked {
+        alike(model::track_idle(&self.plain, track), peer::track_idle(&self.graph, track))
     }
 
-    fn finished(&self, m: Marking) -> Answer {
-        let right = model::finished(&self.plain, &model::Marking::read(&m));
-        assert_eq!(peer::finished(&self.graph, &m).tell(), right);
-        right
+    fn track_step(&self, track: Track, e: Entry) -> Tracked {
+        alike(model::track_step(&self.plain, track, e), peer::track_step(&self.graph, track, e))
     }
+}
+
+fn alike<A: PartialEq + std::fmt::Debug>(model: A, peer: A) -> A {
+    assert_eq!(peer, model, "peer and model");
+    model
+}
+
+/// A record that the peer writes to lent memory, or leaves that alone.
+fn filled(right: Result<[u8; 65], u64>, peer: impl FnOnce(&mut [u8; 65]) -> u64) -> Result<[u8; 65], u64> {
+    let before = [0x3c; 65];
+    let mut out = before;
+    let number = peer(&mut out);
+    assert_eq!((number, out), (right.err().unwrap_or(0), right.unwrap_or(before)), "peer and model");
+    right
 }

@@ -1,48 +1,47 @@
-use super::{answers, written, Both};
+use super::{alike, answers, filled, ran, written, Both};
 use crate::cases::{folds, records, Dice};
-use crate::data::{Answer, Entry, Marking};
-use crate::peer::{self, Tell};
-use crate::sample::{self, CHECK, PUBLISH, REBOOT, START};
-use crate::{cases, model};
+use crate::data::{Entry, Marking, Moved, Ran, Record};
+use crate::sample::{self, CHECK, PUBLISH, REBOOT, REBOOTED, START};
+use crate::{cases, model, peer};
 use std::collections::BTreeSet;
 
-const NEVER: [u64; 9] = [1, 0, 0, 0, 0, 0, 0, 0, 0];
-
-fn both_join(n: u8, a: &[u8], b: &[u8]) -> Result<[u8; 65], Answer> {
-    let right = model::record::join(n, a, b);
-    let mut out = [0; 65];
-    let peer = peer::record::join(n, a, b, &mut out).map(|()| out);
-    assert_eq!(peer.map_err(Answer::from), right);
-    right
+fn both_join(n: u64, a: &[u8], b: &[u8]) -> Result<[u8; 65], u64> {
+    filled(model::record::join(n, a, b), |out| peer::record::join(n, a, b, out))
 }
 
-fn both_apply(n: u8, record: &[u8], m: Marking) -> (Answer, Marking) {
-    let (answer, after) = model::record::apply(n, record, &model::Marking::read(&m));
-    let mut marking = m;
-    let peer = peer::record::apply(n, record, &mut marking).tell();
-    assert_eq!((peer, marking), (answer, after.write()));
-    (answer, marking)
+fn both_apply(n: u64, record: &[u8], m: Marking) -> Moved {
+    alike(model::record::apply(n, record, m), peer::record::apply(n, record, m))
 }
 
-fn folded(entries: &[Entry]) -> [u64; 9] {
+/// The marking after, if the record applies.
+fn applied(n: u64, record: &[u8], m: Marking) -> Option<Marking> {
+    let moved = both_apply(n, record, m);
+    (moved.number == 0).then_some(moved.marking)
+}
+
+fn folded(entries: &[Entry]) -> Record {
     let record = Both::new(sample::graph()).fold(&written(entries)).expect("a lawful journal");
     model::record::read(3, &record).expect("well-formed")
 }
 
 #[test]
 fn samples_8_to_11() {
-    assert_eq!(folded(&[]), [0; 9], "the identity");
-    // Never, NeedIn, NeedEx, NeedOutOrEx, Done, DueSet, DueClear, InSet, InClear.
-    assert_eq!(folded(&[REBOOT]), [0, 0b001, 0, 0, 0b001, 0b010, 0b001, 0, 0b100], "S8");
-    assert_eq!(folded(&[REBOOT, CHECK]), [0, 0b011, 0, 0, 0b011, 0, 0b011, 0b100, 0], "S9");
-    assert_eq!(folded(&[PUBLISH]), [0, 0b100, 0, 0b010, 0b100, 0, 0b100, 0, 0], "S10");
-    assert_eq!(folded(&[REBOOT, PUBLISH]), NEVER, "S11");
+    let none = Record::default();
+    let reboot = Record { need_in: 0b001, done: 0b001, due_set: 0b010, due_clear: 0b001, in_clear: 0b100, ..none };
+    let both = Record { need_in: 0b011, done: 0b011, due_clear: 0b011, in_set: 0b100, ..none };
+    let publish = Record { need_in: 0b100, need_out_or_ex: 0b010, done: 0b100, due_clear: 0b100, ..none };
+    assert_eq!(folded(&[]), none, "the identity");
+    assert_eq!(folded(&[REBOOT]), reboot, "S8");
+    assert_eq!(folded(&[REBOOT, CHECK]), both, "S9");
+    assert_eq!(folded(&[PUBLISH]), publish, "S10");
+    assert_eq!(folded(&[REBOOT, PUBLISH]), Record { never: 1, ..none }, "S11");
 }
 
 #[test]
 fn needed_in_and_out_or_done_is_needed_in_and_done() {
     // Publishing asks for a check that is out or done, and the check then for one that is in: its Done falls away.
-    assert_eq!(folded(&[PUBLISH, CHECK]), [0, 0b110, 0b010, 0, 0b100, 0, 0b110, 0, 0]);
+    let right = Record { need_in: 0b110, need_ex: 0b010, done: 0b100, due_clear: 0b110, ..Record::default() };
+    assert_eq!(folded(&[PUBLISH, CHECK]), right);
 }
 
 #[test]
@@ -50,16 +49,19 @@ fn a_record_restores_what_its_journal_did() {
     let job = Both::new(sample::graph());
     let record = job.fold(&written(&[REBOOT])).expect("a lawful journal");
     let whole = job.run(START, &written(&[REBOOT, CHECK, PUBLISH]));
-    assert_eq!(job.restore(&record, &written(&[CHECK, PUBLISH]), START), (Answer(0).at(2), whole.1));
-    assert_eq!(job.restore(&record, &written(&[PUBLISH]), START).0, Answer(14));
-    assert_eq!(job.restore(&record, &[], Marking([0; 3])), (Answer(16), Marking([0; 3])));
+    assert_eq!(job.restore(&record, &written(&[CHECK, PUBLISH]), START), ran(2, whole.marking));
+    let refused = Ran { number: 14, marking: REBOOTED, ..Ran::default() };
+    assert_eq!(job.restore(&record, &written(&[PUBLISH]), START), refused, "the marking before the entry");
+    let handed_in = Marking { done: 1, ..Marking::default() };
+    let refused = Ran { number: 16, marking: handed_in, ..Ran::default() };
+    assert_eq!(job.restore(&record, &[], handed_in), refused, "what was handed in");
 }
 
 #[test]
 fn one_record_for_what_is_done() {
     for case in 0..2_000 {
         let dice = &mut Dice::new(9, case);
-        let n = 1 + dice.below(64) as u8;
+        let n = 1 + dice.below(64) as u64;
         let [a, b] = [(); 2].map(|()| model::record::write(n, &records::record(dice, n), 65).expect("well-formed"));
         let identity = [0; 65];
         assert_eq!(both_join(n, &a, &identity), Ok(a));
@@ -68,11 +70,8 @@ fn one_record_for_what_is_done() {
         assert_eq!(both_join(n, &twice, &a), Ok(twice), "three copies are two");
         let joined = both_join(n, &a, &b).expect("well-formed");
         let marking = cases::inside(dice, n);
-        let (first, middle) = both_apply(n, &a, marking);
-        let (second, end) = both_apply(n, &b, middle);
-        let right = (first == Answer(0) && second == Answer(0)).then_some(end);
-        let (answer, given) = both_apply(n, &joined, marking);
-        assert_eq!((answer == Answer(0)).then_some(given), right);
+        let in_turn = applied(n, &a, marking).and_then(|middle| applied(n, &b, middle));
+        assert_eq!(applied(n, &joined, marking), in_turn);
     }
 }
 
@@ -81,12 +80,12 @@ fn the_bodies_agree_and_every_number_comes_up() {
     let mut came = BTreeSet::new();
     for case in 0..4_000 {
         let records::Records { n, first, second, marking, .. } = records::make(&mut Dice::new(9, case));
-        came.insert(("join", both_join(n, &first, &second).map_or_else(Answer::number, |_| 0)));
-        came.insert(("apply", both_apply(n, &first, marking).0.number()));
+        came.insert(("join", both_join(n, &first, &second).err().unwrap_or(0)));
+        came.insert(("apply", both_apply(n, &first, marking).number));
         let folds::Fold { graph, marking, journal, record, .. } = folds::make(&mut Dice::new(9, case));
         let job = Both::new(graph);
-        came.insert(("fold", job.fold(&journal).map_or_else(Answer::number, |_| 0)));
-        came.insert(("restore", job.restore(&record, &journal, marking).0.number()));
+        came.insert(("fold", job.fold(&journal).err().unwrap_or(0)));
+        came.insert(("restore", job.restore(&record, &journal, marking).number));
     }
     let mut all = answers("join", &[0, 2, 10]);
     all.append(&mut answers("apply", &[0, 2, 8, 10, 16]));

@@ -1,26 +1,38 @@
 use super::{answers, Both};
 use crate::cases::{self, Case, Dice};
-use crate::data::{Answer, Entry, Graph, Marking};
+use crate::data::{Entry, Graph, Marking, Moved};
 use crate::sample::{self, CHECK, CHECKED, PUBLISH, REBOOT, REBOOTED, START};
 use std::collections::BTreeSet;
 
-const NOT_FINISHED: Answer = Answer::new(0, 0);
-const FINISHED: Answer = Answer::new(0, 1);
+const fn moved(marking: Marking) -> Moved {
+    Moved { number: 0, waiting: 0, marking }
+}
+
+const fn refused(number: u64, marking: Marking) -> Moved {
+    Moved { number, waiting: 0, marking }
+}
 
 #[test]
 fn samples_1_to_7() {
     let job = Both::new(sample::graph());
     let entry = |person, step, role| Entry { person, step, role };
-    assert_eq!(job.check(), Answer(0));
-    assert_eq!(job.take(START, PUBLISH), (Answer::new(15, 1), START), "S1");
-    assert_eq!(job.take(START, REBOOT), (Answer(0), REBOOTED), "S2");
-    assert_eq!(job.finished(REBOOTED), NOT_FINISHED, "S2");
-    assert_eq!(job.take(REBOOTED, PUBLISH), (Answer(14), REBOOTED), "S3");
-    assert_eq!(job.take(REBOOTED, CHECK), (Answer(0), CHECKED), "S4");
-    assert_eq!(job.finished(CHECKED), FINISHED, "S4");
-    assert_eq!(job.take(START, entry(1, 1, 1)), (Answer(13), START), "S5");
-    assert_eq!(job.take(START, entry(1, 1, 0)), (Answer(12), START), "S6");
-    assert_eq!(job.take(START, entry(2, 0, 0)), (Answer(11), START), "S7");
+    assert_eq!(job.check(), 0);
+    assert_eq!(job.take(START, PUBLISH), Moved { number: 15, waiting: 1, marking: START }, "S1");
+    assert_eq!(job.take(START, REBOOT), moved(REBOOTED), "S2");
+    assert_eq!(job.finished(REBOOTED).finished, 0, "S2");
+    assert_eq!(job.take(REBOOTED, PUBLISH), refused(14, REBOOTED), "S3");
+    assert_eq!(job.take(REBOOTED, CHECK), moved(CHECKED), "S4");
+    assert_eq!(job.finished(CHECKED).finished, 1, "S4");
+    assert_eq!(job.take(START, entry(1, 1, 1)), refused(13, START), "S5");
+    assert_eq!(job.take(START, entry(1, 1, 0)), refused(12, START), "S6");
+    assert_eq!(job.take(START, entry(2, 0, 0)), refused(11, START), "S7");
+}
+
+#[test]
+fn below_11_there_are_zeros() {
+    let job = Both::new(sample::graph());
+    let beyond = Marking { due: 1 << 3, ..START };
+    assert_eq!(job.take(beyond, REBOOT), refused(8, Marking::default()));
 }
 
 /// One step, one person, one role that both have.
@@ -37,7 +49,7 @@ const LONE: Entry = Entry { person: 0, step: 0, role: 0 };
 fn its_own_response_stays_due() {
     let mut g = lone();
     g.responses[0] = 1;
-    assert_eq!(Both::new(g).take(Marking([0, 0, 1]), LONE), (Answer(0), Marking([1, 1, 1])));
+    assert_eq!(Both::new(g).take(Marking::new(0, 0, 1), LONE), moved(Marking::new(1, 1, 1)));
 }
 
 #[test]
@@ -45,22 +57,18 @@ fn due_is_kept_when_excluded() {
     let mut g = sample::graph();
     g.excludes[0] |= 1 << 1;
     let job = Both::new(g);
-    let after = Marking([0b001, 0b010, 0b001]);
-    assert_eq!(job.take(START, REBOOT), (Answer(0), after));
-    assert_eq!(job.finished(after), FINISHED);
+    let after = Marking::new(0b001, 0b010, 0b001);
+    assert_eq!(job.take(START, REBOOT), moved(after));
+    assert_eq!(job.finished(after).finished, 1);
 }
 
 #[test]
 fn conditions_are_read_before_the_move() {
-    let mut g = lone();
+    let (mut g, open) = (lone(), Marking::new(0, 0, 1));
     g.conditions[0] = 1;
-    assert_eq!(
-        Both::new(g.clone()).take(Marking([0, 0, 1]), LONE),
-        (Answer(15), Marking([0, 0, 1])),
-        "waits for itself"
-    );
+    assert_eq!(Both::new(g.clone()).take(open, LONE), refused(15, open), "waits for itself");
     g.excludes[0] = 1;
-    assert_eq!(Both::new(g).take(Marking([1, 0, 1]), LONE), (Answer(0), Marking([1, 0, 0])), "excludes itself");
+    assert_eq!(Both::new(g).take(Marking::new(1, 0, 1), LONE), moved(Marking::new(1, 0, 0)), "excludes itself");
 }
 
 #[test]
@@ -69,12 +77,14 @@ fn the_bodies_agree_and_every_number_comes_up() {
     for case in 0..1_000 {
         let Case { graph, marking, entry } = cases::make(&mut Dice::new(7, case));
         let job = Both::new(graph);
-        came.insert(("check", job.check().0));
-        came.insert(("take", job.take(marking, entry).0.number()));
-        came.insert(("finished", job.finished(marking).0));
+        came.insert(("check", job.check()));
+        came.insert(("take", job.take(marking, entry).number));
+        came.insert(("finished", job.finished(marking).number));
+        came.insert(("finished?", job.finished(marking).finished));
     }
     let mut all = answers("check", &[0, 2, 4, 6]);
     all.append(&mut answers("take", &[0, 2, 4, 6, 8, 11, 12, 13, 14, 15]));
-    all.append(&mut answers("finished", &[0, 256, 2, 4, 6, 8]));
+    all.append(&mut answers("finished", &[0, 2, 4, 6, 8]));
+    all.append(&mut answers("finished?", &[0, 1]));
     assert_eq!(came, all);
 }

@@ -1,11 +1,10 @@
-use second::data::{Answer, Graph};
+use second::data::{Graph, Marking, Ran};
 
 /// The least that a run can do: for each entry the loads (its bytes, the roles, the step's rows) and the four set operations
 /// (what the step waits for, Ex, Re, In), and nothing tested on the way. The tests are gathered up and asked once, at the end.
-pub fn run(g: &Graph, marking: &mut [u64; 3], journal: &[u8]) -> Answer {
+pub fn run(g: &Graph, Marking { mut done, mut due, mut included }: Marking, journal: &[u8]) -> Ran {
     let (entries, _) = journal.as_chunks();
-    let [mut done, mut due, mut included] = *marking;
-    let (mut waiting, mut roles) = (0, u16::MAX);
+    let (mut waiting, mut roles) = (0, u64::MAX);
     for &[person, step, role] in entries {
         let at = usize::from(step % 64);
         waiting |= g.conditions[at] & included & !done;
@@ -16,6 +15,5 @@ pub fn run(g: &Graph, marking: &mut [u64; 3], journal: &[u8]) -> Answer {
         included = (included | g.includes[at]) & !g.excludes[at];
     }
     assert!(waiting == 0 && roles & 1 == 1, "an entry is not allowed");
-    *marking = [done, due, included];
-    Answer(0).at(entries.len())
+    Ran { number: 0, waiting: 0, entries: entries.len() as u64, marking: Marking { done, due, included } }
 }

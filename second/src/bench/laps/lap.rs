@@ -1,8 +1,8 @@
 use crate::border;
 use crate::inputs::{job, Job};
 use crate::race::{least, print, race};
-use second::data::{Answer, Marking};
-use second::peer::{self, Tell};
+use second::data::Lapped;
+use second::peer;
 use std::hint::black_box;
 
 /// Entries of the stem, and of the lap, about.
@@ -24,22 +24,22 @@ pub fn run() {
 /// The first of many jobs whose lap goes on for ever.
 fn find() -> Lap {
     let laps = (2 * ENTRIES..).map(|entries| Lap { job: job(entries), cut: 3 * ENTRIES });
-    laps.take(1_000).find(|lap| peer(lap).number() == 0).expect("a lap that goes on for ever")
+    laps.take(1_000).find(|lap| peer(lap).number == 0).expect("a lap that goes on for ever")
 }
 
-fn ours(Lap { job, cut }: &Lap) -> Answer {
-    border::lap(&job.graph, &job.marking.0, &job.journal[..*cut], &job.journal[*cut..])
+fn ours(Lap { job, cut }: &Lap) -> Lapped {
+    border::lap(&job.graph, job.marking, &job.journal[..*cut], &job.journal[*cut..])
 }
 
-fn peer(Lap { job, cut }: &Lap) -> Answer {
-    peer::lap(&job.graph, &job.marking, &job.journal[..*cut], &job.journal[*cut..]).tell()
+fn peer(Lap { job, cut }: &Lap) -> Lapped {
+    peer::lap(&job.graph, job.marking, &job.journal[..*cut], &job.journal[*cut..])
 }
 
 /// The stem and two laps, run by the box.
 fn runs(Lap { job, cut }: &Lap) {
-    let Marking(mut marking) = job.marking;
     let (stem, lap) = job.journal.split_at(*cut);
+    let mut marking = job.marking;
     for journal in [stem, lap, lap] {
-        black_box(border::run(&job.graph, &mut marking, journal));
+        marking = black_box(border::run(&job.graph, marking, journal)).marking;
     }
 }

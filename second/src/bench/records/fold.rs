@@ -1,7 +1,7 @@
 use crate::inputs::job;
 use crate::{border, race::race};
 use second::cases::journals::FULL;
-use second::peer::{self, Tell};
+use second::peer;
 
 pub fn run() {
     race(
@@ -9,6 +9,6 @@ pub fn run() {
         &[job(FULL)],
         [0; 65],
         |job, out| border::fold(&job.graph, &job.journal, out),
-        |job, out| peer::record::fold(&job.graph, &job.journal, out).tell(),
+        |job, out| peer::record::fold(&job.graph, &job.journal, out),
     );
 }

@@ -1,6 +1,6 @@
 use super::halves;
 use crate::{border, race::race};
-use second::peer::{self, Tell};
+use second::peer;
 
 pub fn run() {
     race(
@@ -8,6 +8,6 @@ pub fn run() {
         &halves(),
         [0; 65],
         |halves, out| border::join(64, &halves.first, &halves.second, out),
-        |halves, out| peer::record::join(64, &halves.first, &halves.second, out).tell(),
+        |halves, out| peer::record::join(64, &halves.first, &halves.second, out),
     );
 }

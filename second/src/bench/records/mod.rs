@@ -33,9 +33,11 @@ fn halves() -> Vec<Halves> {
         .map(|entries| {
             let job = job(entries);
             let cut = 3 * (entries / 2);
-            let (mut first, mut second) = ([0; 65], [0; 65]);
-            peer::record::fold(&job.graph, &job.journal[..cut], &mut first).expect("a lawful journal");
-            peer::record::fold(&job.graph, &job.journal[cut..], &mut second).expect("a lawful journal");
+            let [first, second] = [&job.journal[..cut], &job.journal[cut..]].map(|half| {
+                let mut record = [0; 65];
+                assert_eq!(peer::record::fold(&job.graph, half, &mut record), 0, "a lawful journal");
+                record
+            });
             Halves { job, first, second, cut }
         })
         .collect()

@@ -1,13 +1,13 @@
 use super::halves;
 use crate::{border, race::race};
-use second::peer::{self, Tell};
+use second::{data::Record, peer};
 
 pub fn run() {
     race(
         "record_read",
         &halves(),
-        [0; 9],
-        |halves, words| border::record_read(64, &halves.first, words),
-        |halves, words| peer::record::read(64, &halves.first, words).tell(),
+        Record::default(),
+        |halves, record| border::record_read(64, &halves.first, record),
+        |halves, record| peer::record::read(64, &halves.first, record),
     );
 }

@@ -1,6 +1,6 @@
 use crate::inputs::{named, of_steps, SIZES};
 use crate::{border, race::race};
-use second::peer::{self, Tell};
+use second::peer;
 
 pub fn run() {
     for steps in SIZES {
@@ -10,7 +10,7 @@ pub fn run() {
             &cases,
             (),
             |case, ()| border::check(&case.graph),
-            |case, ()| peer::check(&case.graph).tell(),
+            |case, ()| peer::check(&case.graph),
         );
     }
 }

@@ -1,6 +1,6 @@
 use crate::inputs::{named, of_steps, SIZES};
 use crate::{border, race::race};
-use second::peer::{self, Tell};
+use second::peer;
 
 pub fn run() {
     for steps in SIZES {
@@ -9,8 +9,8 @@ pub fn run() {
             &named("finished", steps),
             &cases,
             (),
-            |case, ()| border::finished(&case.graph, &case.marking.0),
-            |case, ()| peer::finished(&case.graph, &case.marking).tell(),
+            |case, ()| border::finished(&case.graph, case.marking),
+            |case, ()| peer::finished(&case.graph, case.marking),
         );
     }
 }

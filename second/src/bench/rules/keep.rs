@@ -1,6 +1,20 @@
-use super::take::race_both;
-use crate::border;
+use super::take::lines;
+use crate::{border, race::race};
+use second::cases::Case;
+use second::data::{Kept, Marking};
+use second::peer;
 
+/// Each call starts from the case's marking, since a move alters it where it lies.
 pub fn run() {
-    race_both((border::keep, "keep"));
+    for (name, cases) in lines("keep") {
+        race(&name, &cases, Marking::default(), ours, |case, marking| {
+            *marking = case.marking;
+            peer::keep(&case.graph, marking, case.entry)
+        });
+    }
+}
+
+fn ours(case: &Case, marking: &mut Marking) -> Kept {
+    *marking = case.marking;
+    border::keep(&case.graph, marking, case.entry)
 }

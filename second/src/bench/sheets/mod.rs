@@ -28,8 +28,9 @@ impl Job {
         let graph = cases::sized(dice, [64, 16, 16], [Density::Half, Density::Half, arrows, arrows, arrows, arrows]);
         let marking = cases::inside(dice, 64);
         let mut sheet = vec![0; 40_000];
-        let length = peer::sheet::write(&graph, &marking, &mut sheet).expect("a well-formed graph");
-        sheet.truncate(length);
+        let written = peer::sheet::write(&graph, marking, &mut sheet);
+        assert_eq!(written.number, 0, "a well-formed graph");
+        sheet.truncate(written.length as usize);
         Job { graph, marking, sheet }
     }
 }

@@ -1,10 +1,12 @@
 use crate::{border, inputs::full, race::race};
-use second::cases::Case;
-use second::peer::{self, Tell};
+use second::peer;
 
 pub fn run() {
-    let ours = |case: &Case, (): &mut ()| border::track_start(&case.graph, &case.marking.0);
-    race("track_start", &full(|_, _, _, _| ()), (), ours, |case, ()| {
-        peer::track_start(&case.graph, &case.marking).tell()
-    });
+    race(
+        "track_start",
+        &full(|_, _, _, _| ()),
+        (),
+        |case, ()| border::track_start(&case.graph, case.marking),
+        |case, ()| peer::track_start(&case.graph, case.marking),
+    );
 }

@@ -1,13 +1,11 @@
 use super::Input;
-use crate::border;
 use crate::floor::{Call, Table};
-use crate::records::expect_record;
+use crate::records::Places;
 use crate::seen::Seen;
 use crate::words::{GRAPH, LENGTH};
+use crate::{border, lent};
 use second::cases::folds::Fold;
-use second::data::Answer;
-use second::model;
-use second::peer::{self, Tell};
+use second::{model, peer};
 
 pub const CALL: Call<Input> = Call {
     table: Table {
@@ -18,18 +16,22 @@ pub const CALL: Call<Input> = Call {
 };
 
 fn run(input: &Input) -> Seen {
-    let case = &input.case;
-    let right = model::record::fold(&input.graph, &case.journal);
-    let mut seen = Seen::new(right.map_or_else(Answer::number, kind));
-    expect_record(&mut seen, "ours", &right, |seen, out| {
-        seen.lend(&case.graph, |graph| border::fold(graph, &case.journal, out))
-    });
-    expect_record(&mut seen, "peer", &right, |_, out| peer::record::fold(&case.graph, &case.journal, out).tell());
+    let Fold { graph, journal, .. } = &input.case;
+    let right = model::record::fold(&input.graph, journal);
+    let number = right.err().unwrap_or(0);
+    let mut seen = Seen::new(right.map_or(number, kind));
+    let (mut lent, mut places) = (lent::Bytes::new(journal), Places::new());
+    seen.ask(
+        graph,
+        &number,
+        |g| border::fold(g, lent.part(), places.ours.array()),
+        |g| peer::record::fold(g, journal, &mut places.peers),
+    );
+    lent.expect(&mut seen, "the journal lent to ours", journal);
+    places.expect(&mut seen, right);
     if let Ok(record) = right {
-        seen.expect("ours, in parts", &record, &in_parts(case));
-        if !input.marking.names_beyond(input.graph.steps) {
-            acts_as_the_run(&mut seen, input, &record);
-        }
+        seen.expect("ours, in parts", &record, &in_parts(&input.case));
+        acts_as_the_run(&mut seen, input, &record);
     }
     seen
 }
@@ -56,10 +58,11 @@ fn in_parts(case: &Fold) -> [u8; 65] {
 
 /// The record applies exactly when the run allows every entry, and then gives the run's end marking.
 fn acts_as_the_run(seen: &mut Seen, input: &Input, record: &[u8; 65]) {
-    let case = &input.case;
-    let (answer, end) = model::run(&input.graph, &input.marking, &case.journal);
-    let mut marking = case.marking;
-    let applied = border::apply(case.graph.steps, record, &mut marking.0) == Answer(0);
-    let right = (answer.number() == 0).then(|| end.write());
-    seen.expect("ours, applied", &right, &applied.then_some(marking));
+    let &Fold { ref graph, marking, ref journal, .. } = &input.case;
+    let ran = model::run(&input.graph, marking, journal);
+    if ran.number != 8 {
+        let applied = border::apply(graph.steps, record, marking);
+        let right = (ran.number == 0).then_some(ran.marking);
+        seen.expect("ours, applied", &right, &(applied.number == 0).then_some(applied.marking));
+    }
 }

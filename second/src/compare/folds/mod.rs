@@ -6,18 +6,18 @@ mod restore;
 use crate::floor::Floor;
 use crate::seen;
 use second::cases::folds::{full, make, Fold};
-use second::data::{Graph, Marking};
+use second::data::Graph;
 
 type Input = seen::Input<Fold>;
 
 pub const FLOOR: Floor<Input> = Floor {
     name: "folds",
-    make: |dice| Input::new(make(dice), parts),
-    full: Some(|dice| Input::new(full(dice), parts)),
+    make: |dice| Input::new(make(dice), graph),
+    full: Some(|dice| Input::new(full(dice), graph)),
     size: |input| input.size,
     calls: &[fold::CALL, restore::CALL],
 };
 
-fn parts(case: &Fold) -> (&Graph, &Marking) {
-    (&case.graph, &case.marking)
+fn graph(case: &Fold) -> &Graph {
+    &case.graph
 }

@@ -1,10 +1,9 @@
 use super::Input;
 use crate::floor::{Call, Table};
 use crate::seen::Seen;
-use crate::words::{by_lateness, ENTRIES, GRAPH, LENGTH, MARKING, NOT_APPLIED, RECORD};
+use crate::words::{by_lateness, ENTRIES, GRAPH, ILL_FORMED, LENGTH, NOT_APPLIED, OUTSIDE};
 use crate::{border, lent};
 use second::cases::folds::Fold;
-use second::data::{Answer, Marking};
 use second::{model, peer};
 
 pub const CALL: Call<Input> = Call {
@@ -13,7 +12,7 @@ pub const CALL: Call<Input> = Call {
         answers: &[
             &[(0, "applied, and no entry"), (256, "applied, all entries pass")],
             GRAPH,
-            &[LENGTH, MARKING, RECORD, NOT_APPLIED],
+            &[LENGTH, OUTSIDE, ILL_FORMED, NOT_APPLIED],
             ENTRIES,
         ],
     },
@@ -21,22 +20,18 @@ pub const CALL: Call<Input> = Call {
 };
 
 fn run(input: &Input) -> Seen {
-    let case = &input.case;
-    let rest = &case.journal[3 * case.recorded.min(case.journal.len() / 3)..];
-    let (answer, marking) = model::record::restore(&input.graph, &case.record, rest, &input.marking);
-    let marking = marking.write();
-    let mut seen = Seen::new(by_lateness(answer));
-    let mut lent = lent::marking(case.marking.0);
-    let ours = seen.lend(&case.graph, |graph| border::restore(graph, &case.record, rest, lent.array()));
-    seen.expect("ours", &answer, &ours);
-    let after = if answer.number() == 0 { marking } else { case.marking };
-    lent.expect(&mut seen, "the marking lent to ours", &after.0);
-    seen.expect("peer", &(answer, marking), &peer(case, rest));
+    let &Fold { ref graph, marking, ref journal, ref record, recorded, .. } = &input.case;
+    let rest = &journal[3 * recorded.min(journal.len() / 3)..];
+    let right = model::record::restore(&input.graph, record, rest, marking);
+    let mut seen = Seen::new(by_lateness(right));
+    let (mut bytes, mut entries) = (lent::Bytes::new(record), lent::Bytes::new(rest));
+    seen.ask(
+        graph,
+        &right,
+        |g| border::restore(g, bytes.part(), entries.part(), marking),
+        |g| peer::record::restore(g, record, rest, marking),
+    );
+    bytes.expect(&mut seen, "the record lent to ours", record);
+    entries.expect(&mut seen, "the journal lent to ours", rest);
     seen
-}
-
-fn peer(case: &Fold, rest: &[u8]) -> (Answer, Marking) {
-    let mut marking = case.marking;
-    let restored = peer::record::restore(&case.graph, &case.record, rest, &mut marking);
-    peer::tell_run(restored, marking)
 }

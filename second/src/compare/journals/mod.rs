@@ -6,18 +6,18 @@ mod walk;
 use crate::floor::Floor;
 use crate::seen;
 use second::cases::journals::{full, make, Journal};
-use second::data::{Graph, Marking};
+use second::data::Graph;
 
 type Input = seen::Input<Journal>;
 
 pub const FLOOR: Floor<Input> = Floor {
     name: "journals",
-    make: |dice| Input::new(make(dice), parts),
-    full: Some(|dice| Input::new(full(dice), parts)),
+    make: |dice| Input::new(make(dice), graph),
+    full: Some(|dice| Input::new(full(dice), graph)),
     size: |input| input.size,
     calls: &[run::CALL, walk::CALL],
 };
 
-fn parts(case: &Journal) -> (&Graph, &Marking) {
-    (&case.graph, &case.marking)
+fn graph(case: &Journal) -> &Graph {
+    &case.graph
 }

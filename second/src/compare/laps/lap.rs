@@ -1,16 +1,11 @@
 use super::Input;
 use crate::floor::{Call, Table};
 use crate::seen::Seen;
-use crate::words::{by_value, Kind, ENTRY, GRAPH, LENGTH, MARKING};
+use crate::words::{Kind, ENTRY, GRAPH, LENGTH, OUTSIDE};
 use crate::{border, lent};
-use second::data::Answer;
-use second::model;
-use second::peer::{self, Tell};
-
-/// By its number and pass; when answered, by its value.
-fn kind(answer: Answer) -> u64 {
-    by_value(answer) + 256 * answer.pass()
-}
+use second::cases::laps::Lap;
+use second::data::{ACCEPTED, STARVED};
+use second::{model, peer};
 
 /// An entry of the first lap.
 const FIRST: &[Kind] = &[
@@ -28,9 +23,9 @@ pub const CALL: Call<Input> = Call {
     table: Table {
         name: "lap",
         answers: &[
-            &[(0, "accepted"), (256, "starved")],
+            &[(256 * ACCEPTED, "accepted"), (256 * STARVED, "starved")],
             GRAPH,
-            &[LENGTH, MARKING, (17, "lap empty")],
+            &[LENGTH, OUTSIDE, (17, "lap empty")],
             ENTRY,
             FIRST,
             SECOND,
@@ -40,16 +35,17 @@ pub const CALL: Call<Input> = Call {
 };
 
 fn run(input: &Input) -> Seen {
-    let case = &input.case;
-    let right = model::lap(&input.graph, &input.marking, &case.stem, &case.lap);
-    let mut seen = Seen::new(kind(right));
-    let mut lent = lent::marking(case.marking.0);
-    let [mut stem, mut lap] = [&case.stem, &case.lap].map(|journal| lent::bytes(journal));
-    let ours = seen.lend(&case.graph, |graph| border::lap(graph, lent.array(), stem.part(), lap.part()));
-    seen.expect("ours", &right, &ours);
-    lent.expect(&mut seen, "the marking lent to ours", &case.marking.0);
-    stem.expect(&mut seen, "the stem lent to ours", &case.stem);
-    lap.expect(&mut seen, "the lap lent to ours", &case.lap);
-    seen.expect("peer", &right, &peer::lap(&case.graph, &case.marking, &case.stem, &case.lap).tell());
+    let &Lap { ref graph, marking, ref stem, ref lap } = &input.case;
+    let right = model::lap(&input.graph, marking, stem, lap);
+    let mut seen = Seen::new(right.number + 256 * (right.verdict + right.pass));
+    let [mut stem_lent, mut lap_lent] = [stem, lap].map(|journal| lent::Bytes::new(journal));
+    seen.ask(
+        graph,
+        &right,
+        |g| border::lap(g, marking, stem_lent.part(), lap_lent.part()),
+        |g| peer::lap(g, marking, stem, lap),
+    );
+    stem_lent.expect(&mut seen, "the stem lent to ours", stem);
+    lap_lent.expect(&mut seen, "the lap lent to ours", lap);
     seen
 }

@@ -5,18 +5,18 @@ mod lap;
 use crate::floor::Floor;
 use crate::seen;
 use second::cases::laps::{full, make, Lap};
-use second::data::{Graph, Marking};
+use second::data::Graph;
 
 type Input = seen::Input<Lap>;
 
 pub const FLOOR: Floor<Input> = Floor {
     name: "laps",
-    make: |dice| Input::new(make(dice), parts),
-    full: Some(|dice| Input::new(full(dice), parts)),
+    make: |dice| Input::new(make(dice), graph),
+    full: Some(|dice| Input::new(full(dice), graph)),
     size: |input| input.size,
     calls: &[lap::CALL],
 };
 
-fn parts(case: &Lap) -> (&Graph, &Marking) {
-    (&case.graph, &case.marking)
+fn graph(case: &Lap) -> &Graph {
+    &case.graph
 }

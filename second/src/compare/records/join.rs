@@ -1,40 +1,46 @@
-use super::expect_record;
-use crate::border;
+use super::Places;
 use crate::floor::{Call, Table};
 use crate::seen::Seen;
-use crate::words::{COUNTS, RECORD};
+use crate::words::{COUNTS, ILL_FORMED};
+use crate::{border, lent};
 use second::cases::records::Records;
-use second::data::{Answer, Marking};
-use second::model;
-use second::peer::{self, Tell};
+use second::data::Marking;
+use second::{model, peer};
 
 pub const CALL: Call<Records> =
-    Call { table: Table { name: "join", answers: &[&[(0, "a record"), (256, "never"), COUNTS, RECORD]] }, run };
+    Call { table: Table { name: "join", answers: &[&[(0, "a record"), (256, "never"), COUNTS, ILL_FORMED]] }, run };
 
-fn run(case: &Records) -> Seen {
-    let Records { n, first, second, .. } = case;
-    let right = model::record::join(*n, first, second);
-    let mut seen = Seen::new(right.map_or_else(Answer::number, |record| 256 * u64::from(record[0])));
-    expect_record(&mut seen, "ours", &right, |_, out| border::join(*n, first, second, out));
-    expect_record(&mut seen, "peer", &right, |_, out| peer::record::join(*n, first, second, out).tell());
-    if let (Ok(joined), 0..=3) = (right, *n) {
-        for marking in every_marking(*n) {
+fn run(&Records { n, ref first, ref second, .. }: &Records) -> Seen {
+    let right = model::record::join(n, first, second);
+    let number = right.err().unwrap_or(0);
+    let mut seen = Seen::new(right.map_or(number, |record| 256 * u64::from(record[0])));
+    let ([mut a, mut b], mut places) = ([first, second].map(|record| lent::Bytes::new(record)), Places::new());
+    seen.expect("ours", &number, &border::join(n, a.part(), b.part(), places.ours.array()));
+    seen.expect("peer", &number, &peer::record::join(n, first, second, &mut places.peers));
+    a.expect(&mut seen, "the first record lent to ours", first);
+    b.expect(&mut seen, "the second record lent to ours", second);
+    places.expect(&mut seen, right);
+    if let (Ok(joined), 0..=3) = (right, n) {
+        for marking in every_marking(n) {
             seen.expect(
                 "ours, first then second",
-                &in_turn(*n, &[first, second], marking),
-                &in_turn(*n, &[&joined], marking),
+                &in_turn(n, &[first, second], marking),
+                &in_turn(n, &[&joined], marking),
             );
         }
     }
     seen
 }
 
-fn every_marking(n: u8) -> impl Iterator<Item = Marking> {
+fn every_marking(n: u64) -> impl Iterator<Item = Marking> {
     let set = (1 << n) - 1;
-    (0..1u64 << (3 * n)).map(move |all| Marking([all & set, all >> n & set, all >> (2 * n) & set]))
+    (0..1 << (3 * n)).map(move |all| Marking::new(all & set, all >> n & set, all >> (2 * n) & set))
 }
 
 /// What the box makes of a marking by applying one record after the other, if all apply.
-fn in_turn(n: u8, records: &[&[u8]], mut marking: Marking) -> Option<Marking> {
-    records.iter().all(|record| border::apply(n, record, &mut marking.0) == Answer(0)).then_some(marking)
+fn in_turn(n: u64, records: &[&[u8]], marking: Marking) -> Option<Marking> {
+    records.iter().try_fold(marking, |marking, record| {
+        let moved = border::apply(n, record, marking);
+        (moved.number == 0).then_some(moved.marking)
+    })
 }

@@ -6,10 +6,9 @@ mod read;
 mod write;
 
 use crate::floor::Floor;
-use crate::lent::{self, Lent};
+use crate::lent;
 use crate::seen::Seen;
 use second::cases::records::{make, Records};
-use second::data::Answer;
 
 pub const FLOOR: Floor<Records> = Floor {
     name: "records",
@@ -22,15 +21,21 @@ pub const FLOOR: Floor<Records> = Floor {
 /// What stands where a record is to be written.
 const BEFORE: [u8; 65] = [0x3c; 65];
 
-/// Lends room for a record, which must be filled with the right one, or left alone where there is none.
-pub fn expect_record(
-    seen: &mut Seen,
-    who: &str,
-    right: &Result<[u8; 65], Answer>,
-    call: impl FnOnce(&mut Seen, &mut [u8; 65]) -> Answer,
-) {
-    let mut out: Lent<u8> = lent::bytes(&BEFORE);
-    let answer = call(seen, out.array());
-    seen.expect(who, &right.err().unwrap_or(Answer(0)), &answer);
-    out.expect(seen, &format!("the record written by {who}"), &right.unwrap_or(BEFORE));
+/// Where the two are to write a record.
+pub struct Places {
+    pub ours: lent::Bytes,
+    pub peers: [u8; 65],
+}
+
+impl Places {
+    pub fn new() -> Self {
+        Places { ours: lent::Bytes::new(&BEFORE), peers: BEFORE }
+    }
+
+    /// They hold the right record, or are left alone where there is none.
+    pub fn expect(self, seen: &mut Seen, right: Result<[u8; 65], u64>) {
+        let after = right.unwrap_or(BEFORE);
+        self.ours.expect(seen, "the record written by ours", &after);
+        seen.expect("the record written by peer", &after, &self.peers);
+    }
 }

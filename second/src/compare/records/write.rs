@@ -1,29 +1,25 @@
-use crate::border;
 use crate::floor::{Call, Table};
-use crate::lent::{self, Lent};
 use crate::seen::Seen;
-use crate::words::{COUNTS, RECORD, ROOM};
+use crate::words::{COUNTS, ILL_FORMED, ROOM};
+use crate::{border, lent};
 use second::cases::records::Records;
-use second::data::{Answer, Bytes};
-use second::model;
-use second::peer::{self, Tell};
+use second::data::{Bytes, Written};
+use second::{model, peer};
 
 pub const CALL: Call<Records> =
-    Call { table: Table { name: "record_write", answers: &[&[(0, "written"), COUNTS, RECORD, ROOM]] }, run };
+    Call { table: Table { name: "record_write", answers: &[&[(0, "written"), COUNTS, ILL_FORMED, ROOM]] }, run };
 
-fn run(Records { n, words, room, .. }: &Records) -> Seen {
-    let right = model::record::write(*n, words, room.len());
-    let mut seen = Seen::new(right.map_or_else(Answer::number, |_| 0));
-    let (answer, after) = match right {
-        Ok(bytes) => (Answer(0).at(65), [&bytes, &room[65..]].concat()),
-        Err(answer) => (answer, room.to_vec()),
+fn run(&Records { n, ref record, ref room, .. }: &Records) -> Seen {
+    let (right, after) = match model::record::write(n, record, room.len()) {
+        Ok(bytes) => (Written { number: 0, length: 65 }, [&bytes, &room[65..]].concat()),
+        Err(number) => (Written { number, length: 0 }, room.to_vec()),
     };
-    let (mut lent, mut read) = (lent::bytes(room), Lent::new(words, 0));
-    seen.expect("ours", &answer, &border::record_write(*n, read.array(), lent.part()));
-    lent.expect(&mut seen, "the room lent to ours", &after);
-    read.expect(&mut seen, "the words lent to ours", words);
-    let mut room = room.clone();
-    let peer = peer::record::write(*n, words, &mut room.0).tell();
-    seen.expect("peer", &(answer, Bytes(after)), &(peer, room));
+    let mut seen = Seen::new(right.number);
+    let (lent, mut ours, mut peers) = (lent::Words::new(*record), lent::Bytes::new(room), room.clone());
+    seen.expect("ours", &right, &border::record_write(n, &lent.content, ours.part()));
+    seen.expect("peer", &right, &peer::record::write(n, record, &mut peers.0));
+    lent.expect(&mut seen, "the record lent to ours", record);
+    ours.expect(&mut seen, "the room of ours", &after);
+    seen.expect("the room of peer", &Bytes(after), &peers);
     seen
 }

@@ -1,5 +1,20 @@
 use super::{take, Input};
-use crate::{border, floor::Call};
+use crate::border;
+use crate::floor::Call;
+use crate::lent;
+use crate::seen::Seen;
+use second::cases::Case;
+use second::{model, peer};
 
-/// "The kept form gives the same answers."
-pub const CALL: Call<Input> = Call { table: take::table("keep"), run: |input| take::run(input, border::keep) };
+pub const CALL: Call<Input> = Call { table: take::table("keep"), run };
+
+fn run(input: &Input) -> Seen {
+    let &Case { ref graph, marking, entry } = &input.case;
+    let (mut right, mut ours, mut peers) = (marking, lent::Words::new(marking), marking);
+    let answer = model::keep(&input.graph, &mut right, entry);
+    let mut seen = Seen::new(answer.number);
+    seen.ask(graph, &answer, |g| border::keep(g, &mut ours.content, entry), |g| peer::keep(g, &mut peers, entry));
+    ours.expect(&mut seen, "the marking kept by ours", &right);
+    seen.expect("the marking kept by peer", &right, &peers);
+    seen
+}

@@ -14,7 +14,7 @@ type Input = seen::Input<Case>;
 
 pub const FLOOR: Floor<Input> = Floor {
     name: "rules",
-    make: |dice| Input::new(cases::make(dice), |case| (&case.graph, &case.marking)),
+    make: |dice| Input::new(cases::make(dice), |case| &case.graph),
     full: None,
     size: |input| input.size,
     calls: &[

@@ -9,44 +9,39 @@ use crate::{
     seen::{self, Seen},
 };
 use second::cases::sheets::{make, Sheet};
-use second::data::{Answer, Graph, Marking};
+use second::data::{Graph, Marking};
 
 type Input = seen::Input<Sheet>;
 
 pub const FLOOR: Floor<Input> = Floor {
     name: "sheets",
-    make: |dice| Input::new(make(dice), |case| (&case.graph, &case.marking)),
+    make: |dice| Input::new(make(dice), |case| &case.graph),
     full: None,
     size: |input| input.size,
     calls: &[read::CALL, write::CALL],
 };
 
 /// What stands where the marking is to be written.
-const MARKING: Marking = Marking([0x3c3c_3c3c_3c3c_3c3c; 3]);
+const MARKING: Marking = Marking::new(WORD, WORD, WORD);
+const WORD: u64 = 0x3c3c_3c3c_3c3c_3c3c;
 
 /// What stands where the graph is to be written.
-fn before() -> Graph {
-    let rows = [0x6969_6969_6969_6969; 64];
-    Graph {
-        allows: [0x6969; 64],
-        holds: [0x6969; 16],
-        conditions: rows,
-        responses: rows,
-        includes: rows,
-        excludes: rows,
-        ..Graph::bare(201, 202, 203)
-    }
-}
+const GRAPH: Graph = Graph {
+    conditions: [WORD; 64],
+    responses: [WORD; 64],
+    includes: [WORD; 64],
+    excludes: [WORD; 64],
+    allows: [WORD; 64],
+    holds: [WORD; 16],
+    ..Graph::bare(201, 202, 203)
+};
 
 /// Looks at what the box reads.
-fn expect_read(seen: &mut Seen, sheet: &[u8], answer: Answer, graph: &Graph, marking: Marking) {
-    let (mut lent, mut counts) = (before(), lent::bytes(&[201, 202, 203]));
-    let (mut first, mut read) = (lent::marking(MARKING.0), lent::bytes(sheet));
-    let given = border::read(read.part(), counts.array(), &mut lent, first.array());
-    seen.expect("ours", &answer, &given);
-    counts.expect(seen, "the counts read by ours", &[graph.steps, graph.people, graph.roles]);
-    [lent.steps, lent.people, lent.roles] = [graph.steps, graph.people, graph.roles];
-    seen.expect("the graph read by ours", graph, &lent);
-    first.expect(seen, "the marking read by ours", &marking.0);
+fn expect_read(seen: &mut Seen, sheet: &[u8], number: u64, graph: &Graph, marking: Marking) {
+    let (mut read, mut block, mut first) =
+        (lent::Bytes::new(sheet), lent::Words::new(GRAPH), lent::Words::new(MARKING));
+    seen.expect("ours", &number, &border::read(read.part(), &mut block.content, &mut first.content));
+    block.expect(seen, "the graph read by ours", graph);
+    first.expect(seen, "the marking read by ours", &marking);
     read.expect(seen, "the sheet lent to ours", sheet);
 }

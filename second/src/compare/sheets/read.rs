@@ -1,11 +1,10 @@
-use super::{before, expect_read, Input, MARKING};
+use super::{expect_read, Input, GRAPH, MARKING};
 use crate::border;
 use crate::floor::{Call, Table};
 use crate::seen::Seen;
-use crate::words::COUNTS;
-use second::data::{Answer, Bytes};
-use second::model;
-use second::peer::{self, Tell};
+use crate::words::{BEYOND, BOTH, COUNTS};
+use second::data::{Bytes, Written};
+use second::{model, peer};
 
 pub const CALL: Call<Input> = Call {
     table: Table {
@@ -15,9 +14,9 @@ pub const CALL: Call<Input> = Call {
             (1, "not laid out as a sheet"),
             COUNTS,
             (3, "a body that does not match"),
-            (4, "a set beyond the counts"),
+            BEYOND,
             (5, "an arrow wrong or out of order"),
-            (6, "a pair includes and excludes"),
+            BOTH,
         ]],
     },
     run,
@@ -25,19 +24,20 @@ pub const CALL: Call<Input> = Call {
 
 fn run(input: &Input) -> Seen {
     let sheet = &input.case.sheet;
-    let (answer, graph, marking) = match model::sheet::read(sheet) {
-        Ok((graph, marking)) => (Answer(0), graph.write(), marking.write()),
-        Err(answer) => (answer, before(), MARKING),
+    let (number, graph, marking) = match model::sheet::read(sheet) {
+        Ok((graph, marking)) => (0, graph.write(), marking.write()),
+        Err(number) => (number, GRAPH, MARKING),
     };
-    let mut seen = Seen::new(answer.number());
-    expect_read(&mut seen, sheet, answer, &graph, marking);
-    let (mut read, mut first) = (before(), MARKING);
-    let peer = peer::sheet::read(sheet, &mut read, &mut first).tell();
-    seen.expect("peer", &(answer, &graph, marking), &(peer, &read, first));
-    if answer == Answer(0) {
-        let mut room = vec![0; sheet.len()];
-        let written = border::write(&graph, &marking.0, &mut room);
-        seen.expect("ours, written back", &(Answer(0).at(sheet.len()), sheet), &(written, &Bytes(room)));
+    let mut seen = Seen::new(number);
+    expect_read(&mut seen, sheet, number, &graph, marking);
+    let (mut block, mut first) = (GRAPH, MARKING);
+    let peer = peer::sheet::read(sheet, &mut block, &mut first);
+    seen.expect("peer", &(number, &graph, marking), &(peer, &block, first));
+    if number == 0 {
+        let mut room = Bytes(vec![0; sheet.len()]);
+        let right = Written { number: 0, length: sheet.len() as u64 };
+        seen.expect("ours, written back", &right, &border::write(&graph, marking, &mut room.0));
+        seen.expect("the sheet that ours has written back", sheet, &room);
     }
     seen
 }

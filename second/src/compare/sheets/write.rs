@@ -1,42 +1,38 @@
 use super::{expect_read, Input};
 use crate::floor::{Call, Table};
 use crate::seen::Seen;
-use crate::words::{GRAPH, ROOM};
+use crate::words::{BEYOND, GRAPH, ROOM};
 use crate::{border, lent};
-use second::data::{Answer, Bytes};
-use second::model;
-use second::peer::{self, Tell};
+use second::cases::sheets::Sheet;
+use second::data::{Bytes, Written};
+use second::{model, peer};
 
+/// Number 4 of the marking alone is told apart from that of the graph.
 pub const CALL: Call<Input> = Call {
-    table: Table { name: "write", answers: &[&[(0, "written")], GRAPH, &[(4 + 256, "  the marking"), ROOM]] },
+    table: Table { name: "write", answers: &[&[(0, "written")], GRAPH, &[(256 + BEYOND.0, "  the marking"), ROOM]] },
     run,
 };
 
 fn run(input: &Input) -> Seen {
-    let case = &input.case;
-    let right = model::sheet::write(&input.graph, &input.marking, case.room.len());
-    let mut seen = Seen::new(right.as_ref().map_or_else(|answer| kind(input, *answer), |_| 0));
-    let (answer, after) = match &right {
-        Ok(sheet) => (Answer(0).at(sheet.len()), [sheet, &case.room[sheet.len()..]].concat()),
-        Err(answer) => (*answer, case.room.to_vec()),
+    let &Sheet { ref graph, marking, ref room, .. } = &input.case;
+    let sheet = model::sheet::write(&input.graph, marking, room.len());
+    let (right, after) = match &sheet {
+        Ok(sheet) => (Written { number: 0, length: sheet.len() as u64 }, [sheet, &room[sheet.len()..]].concat()),
+        Err(number) => (Written { number: *number, length: 0 }, room.to_vec()),
     };
-    let (mut room, mut marking) = (lent::bytes(&case.room), lent::marking(case.marking.0));
-    let ours = seen.lend(&case.graph, |graph| border::write(graph, marking.array(), room.part()));
-    seen.expect("ours", &answer, &ours);
-    room.expect(&mut seen, "the room lent to ours", &after);
-    marking.expect(&mut seen, "the marking lent to ours", &case.marking.0);
-    let mut room = case.room.clone();
-    let peer = peer::sheet::write(&case.graph, &case.marking, &mut room.0);
-    let peer = peer.tell();
-    seen.expect("peer", &(answer, Bytes(after)), &(peer, room));
-    if let Ok(sheet) = right {
-        expect_read(&mut seen, &sheet, Answer(0), &case.graph, case.marking);
+    let marking_alone = right.number == BEYOND.0 && model::check(&input.graph) != BEYOND.0;
+    let mut seen = Seen::new(right.number + 256 * u64::from(marking_alone));
+    let (mut ours, mut peers) = (lent::Bytes::new(room), room.clone());
+    seen.ask(
+        graph,
+        &right,
+        |g| border::write(g, marking, ours.part()),
+        |g| peer::sheet::write(g, marking, &mut peers.0),
+    );
+    ours.expect(&mut seen, "the room of ours", &after);
+    seen.expect("the room of peer", &Bytes(after), &peers);
+    if let Ok(sheet) = sheet {
+        expect_read(&mut seen, &sheet, 0, graph, marking);
     }
     seen
-}
-
-/// Number 4 of the marking alone is told apart from that of the graph.
-fn kind(input: &Input, answer: Answer) -> u64 {
-    let graph = model::check(&input.graph).number();
-    answer.number() + if answer.number() == 4 && graph != 4 { 256 } else { 0 }
 }

@@ -13,7 +13,7 @@ type Input = seen::Input<Track>;
 
 pub const FLOOR: Floor<Input> = Floor {
     name: "tracker",
-    make: |dice| Input::new(make(dice), |case| (&case.graph, &case.marking)),
+    make: |dice| Input::new(make(dice), |case| &case.graph),
     full: None,
     size: |input| input.size,
     calls: &[start::CALL, idle::CALL, step::CALL, walk::CALL],

@@ -34,6 +34,6 @@ impl Record {
 }
 
 /// Number 2 of a stated n.
-fn out_of_range(n: u8) -> bool {
+fn out_of_range(n: u64) -> bool {
     !(1..=64).contains(&n)
 }

@@ -1,24 +1,23 @@
 use super::{CONDITION, EXCLUDE, INCLUDE, RESPONSE};
-use crate::data::{Answer, Marking as Stored};
+use crate::data;
 use crate::model::{
     check::refused,
-    graph::{row, Pairs},
-    Graph, Marking,
+    graph::{stored, Pairs},
+    targets, Graph, Marking,
 };
 
 /// The sheet that goes into a room of so many bytes. Refusals 2, 4 (graph or marking), 6, 18.
-pub fn write(g: &Graph, m: &Marking, room: usize) -> Result<Vec<u8>, Answer> {
-    match refused(g, &[(4, m.names_beyond(g.steps))]) {
-        0 => Some(sheet(g, m)).filter(|sheet| sheet.len() <= room).ok_or(Answer::new(18, 0)),
-        number => Err(Answer::new(number, 0)),
+pub fn write(g: &Graph, m: data::Marking, room: usize) -> Result<Vec<u8>, u64> {
+    match refused(g, &[(4, Marking::read(m).names_beyond(g.steps))]) {
+        0 => Some(sheet(g, m)).filter(|sheet| sheet.len() <= room).ok_or(18),
+        number => Err(number),
     }
 }
 
-fn sheet(g: &Graph, m: &Marking) -> Vec<u8> {
-    let Stored(marking) = m.write();
+fn sheet(g: &Graph, m: data::Marking) -> Vec<u8> {
     let bodies = [
         [g.steps, g.people, g.roles].map(|count| count as u8).to_vec(),
-        marking.iter().flat_map(|set| set.to_le_bytes()).collect(),
+        m.bytes(),
         role_sets(&g.allows, g.steps),
         role_sets(&g.holds, g.people),
         arrows(g),
@@ -33,11 +32,11 @@ fn sheet(g: &Graph, m: &Marking) -> Vec<u8> {
     sheet
 }
 
-fn role_sets(pairs: &Pairs, count: usize) -> Vec<u8> {
-    (0..count).flat_map(|i| (row(pairs, i) as u16).to_le_bytes()).collect()
+fn role_sets(pairs: &Pairs, count: u64) -> Vec<u8> {
+    (0..count).flat_map(|i| (stored(&targets(pairs, i)) as u16).to_le_bytes()).collect()
 }
 
-/// "Arrows: kind, from, to; strictly ascending as triples."
+/// By kind, then from, then to.
 fn arrows(g: &Graph) -> Vec<u8> {
     let kinds = [(CONDITION, &g.conditions), (RESPONSE, &g.responses), (INCLUDE, &g.includes), (EXCLUDE, &g.excludes)];
     let of_kind = |(kind, arrows): (u8, &Pairs)| -> Vec<u8> {

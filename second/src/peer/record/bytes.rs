@@ -1,76 +1,66 @@
-use super::{stated, Record};
-use crate::peer::{check::first, Refusal};
+use super::stated;
+use crate::data::{Record, Written};
+use crate::peer::{check::first, number, Refusal};
 
-/// Never and the eight sets of the record in the bytes.
-pub fn read(n: u8, bytes: &[u8], words: &mut [u64; 9]) -> Result<(), Refusal> {
-    stated(n)?;
-    *words = Record::parse(n, bytes)?.words();
-    Ok(())
+/// Puts the record in the bytes where it is to lie.
+pub fn read(n: u64, bytes: &[u8], record: &mut Record) -> u64 {
+    number(stated(n).and_then(|()| parse(n, bytes)).map(|parsed| *record = parsed))
 }
 
-/// Writes the words to the beginning of the room and gives how many bytes that were.
-pub fn write(n: u8, words: &[u64; 9], room: &mut [u8]) -> Result<usize, Refusal> {
+/// Writes the record to the beginning of the room.
+pub fn write(n: u64, record: &Record, room: &mut [u8]) -> Written {
+    match placed(n, record, room) {
+        Ok(length) => Written { number: 0, length: length as u64 },
+        Err(refusal) => Written { number: refusal.number(), length: 0 },
+    }
+}
+
+#[inline]
+fn placed(n: u64, record: &Record, room: &mut [u8]) -> Result<usize, Refusal> {
     stated(n)?;
-    let [never, sets @ ..] = words;
-    let record = Record::checked(n, *never, sets)?;
+    well_formed(n, record)?;
     let place = room.first_chunk_mut().ok_or(Refusal::Room)?;
-    record.put(place);
+    put(record, place);
     Ok(place.len())
 }
 
-impl Record {
-    /// For a number of steps that has been checked.
-    #[inline]
-    pub(super) fn parse(n: u8, bytes: &[u8]) -> Result<Record, Refusal> {
-        let Ok([never, sets @ ..]) = <&[u8; 65]>::try_from(bytes) else {
-            return Err(Refusal::Record);
-        };
-        let mut words = [0; 8];
-        for (word, bytes) in words.iter_mut().zip(sets.as_chunks().0) {
-            *word = u64::from_le_bytes(*bytes);
-        }
-        Record::checked(n, u64::from(*never), &words)
+/// For a number of steps that has been checked.
+#[inline]
+pub fn parse(n: u64, bytes: &[u8]) -> Result<Record, Refusal> {
+    let Ok([never, sets @ ..]) = <&[u8; 65]>::try_from(bytes) else {
+        return Err(Refusal::IllFormed);
+    };
+    let mut words = [u64::from(*never); 9];
+    for (word, bytes) in words[1..].iter_mut().zip(sets.as_chunks().0) {
+        *word = u64::from_le_bytes(*bytes);
     }
+    let record = Record::new(words);
+    well_formed(n, &record)?;
+    Ok(record)
+}
 
-    #[inline]
-    fn checked(n: u8, never: u64, sets: &[u64; 8]) -> Result<Record, Refusal> {
-        let all = sets.iter().fold(0, |union, set| union | set);
-        let &[need_in, need_ex, need_out_or_ex, done, due_set, due_clear, in_set, in_clear] = sets;
-        let clash = (need_in | need_ex) & need_out_or_ex
-            | done & need_ex
-            | in_set & (need_in | in_clear)
-            | due_set & due_clear
-            | all & !first(n);
-        if clash != 0 || never > 1 || (never == 1 && all != 0) {
-            return Err(Refusal::Record);
-        }
-        let never = never == 1;
-        Ok(Record { never, need_in, need_ex, need_out_or_ex, done, due_set, due_clear, in_set, in_clear })
+#[inline]
+fn well_formed(n: u64, record: &Record) -> Result<(), Refusal> {
+    let [never, sets @ ..] = record.words();
+    let all = sets.iter().fold(0, |union, set| union | set);
+    let clash = (record.need_in | record.need_ex) & record.need_out_or_ex
+        | record.done & record.need_ex
+        | record.in_set & (record.need_in | record.in_clear)
+        | record.due_set & record.due_clear
+        | all & !first(n);
+    if clash != 0 || never > 1 || (never == 1 && all != 0) {
+        return Err(Refusal::IllFormed);
     }
+    Ok(())
+}
 
-    #[inline]
-    pub fn words(&self) -> [u64; 9] {
-        [
-            self.never.into(),
-            self.need_in,
-            self.need_ex,
-            self.need_out_or_ex,
-            self.done,
-            self.due_set,
-            self.due_clear,
-            self.in_set,
-            self.in_clear,
-        ]
-    }
-
-    /// Writes the record's bytes where they are to lie.
-    #[inline]
-    pub(super) fn put(&self, out: &mut [u8; 65]) {
-        let [never, sets @ ..] = self.words();
-        let [first, rest @ ..] = out;
-        *first = never as u8;
-        for (bytes, set) in rest.as_chunks_mut().0.iter_mut().zip(sets) {
-            *bytes = set.to_le_bytes();
-        }
+/// Writes the record's bytes where they are to lie.
+#[inline]
+pub fn put(record: &Record, out: &mut [u8; 65]) {
+    let [never, sets @ ..] = record.words();
+    let [first, rest @ ..] = out;
+    *first = never as u8;
+    for (bytes, set) in rest.as_chunks_mut().0.iter_mut().zip(sets) {
+        *bytes = set.to_le_bytes();
     }
 }

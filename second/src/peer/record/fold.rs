@@ -1,54 +1,51 @@
-use super::Record;
-use crate::data::{Entry, Graph};
+use super::{bytes::put, tidy, IDENTITY, NEVER};
+use crate::data::{Entry, Graph, Record};
 use crate::peer::{
-    check::check,
+    check::well_formed,
     journal::{entries, entry},
-    Refusal,
+    number, Refusal,
 };
 
 /// Writes the journal's record.
-pub fn fold(g: &Graph, journal: &[u8], out: &mut [u8; 65]) -> Result<(), Refusal> {
-    folded(g, journal)?.put(out);
-    Ok(())
+pub fn fold(g: &Graph, journal: &[u8], out: &mut [u8; 65]) -> u64 {
+    number(folded(g, journal).map(|record| put(&record, out)))
 }
 
 /// Kept apart from the writing: within it the loop would have too few registers.
 #[inline(never)]
 fn folded(g: &Graph, journal: &[u8]) -> Result<Record, Refusal> {
-    check(g)?;
-    let mut record = Record::IDENTITY;
+    well_formed(g)?;
+    let mut record = IDENTITY;
     for bytes in entries(journal)? {
-        match record.and(g, entry(bytes)) {
+        match longer(&record, g, entry(bytes)) {
             Some(longer) => record = longer,
-            None => return Ok(Record::NEVER),
+            None => return Ok(NEVER),
         }
     }
-    Ok(record.tidy())
+    Ok(tidy(record))
 }
 
-impl Record {
-    /// One entry more, unless none can follow here. Tidied once for all at the end.
-    #[inline]
-    fn and(&self, g: &Graph, e: Entry) -> Option<Record> {
-        if e.person >= g.people || e.step >= g.steps || e.role >= g.roles {
-            return None;
-        }
-        let (step, this, role) = (usize::from(e.step), 1u64 << e.step, 1u16 << e.role);
-        if g.holds[usize::from(e.person)] & g.allows[step] & role == 0 || self.in_clear & this != 0 {
-            return None;
-        }
-        let open = g.conditions[step] & !(self.in_clear | self.done | self.need_ex);
-        let (responses, includes, excludes) = (g.responses[step], g.includes[step], g.excludes[step]);
-        Some(Record {
-            never: false,
-            need_in: self.need_in | (this & !self.in_set),
-            need_ex: self.need_ex | (open & self.in_set),
-            need_out_or_ex: self.need_out_or_ex | (open & !self.in_set),
-            done: self.done | this,
-            due_set: (self.due_set & !this) | responses,
-            due_clear: (self.due_clear | this) & !responses,
-            in_set: (self.in_set | includes) & !excludes,
-            in_clear: (self.in_clear | excludes) & !includes,
-        })
+/// With one entry more, unless none can follow here. Tidied once for all at the end.
+#[inline]
+fn longer(record: &Record, g: &Graph, e: Entry) -> Option<Record> {
+    if u64::from(e.person) >= g.people || u64::from(e.step) >= g.steps || u64::from(e.role) >= g.roles {
+        return None;
     }
+    let (step, this) = (usize::from(e.step), 1u64 << e.step);
+    if (g.holds[usize::from(e.person)] & g.allows[step]) >> e.role & 1 == 0 || record.in_clear & this != 0 {
+        return None;
+    }
+    let open = g.conditions[step] & !(record.in_clear | record.done | record.need_ex);
+    let (responses, includes, excludes) = (g.responses[step], g.includes[step], g.excludes[step]);
+    Some(Record {
+        never: 0,
+        need_in: record.need_in | (this & !record.in_set),
+        need_ex: record.need_ex | (open & record.in_set),
+        need_out_or_ex: record.need_out_or_ex | (open & !record.in_set),
+        done: record.done | this,
+        due_set: (record.due_set & !this) | responses,
+        due_clear: (record.due_clear | this) & !responses,
+        in_set: (record.in_set | includes) & !excludes,
+        in_clear: (record.in_clear | excludes) & !includes,
+    })
 }

@@ -13,52 +13,27 @@ pub use join::join;
 pub use restore::restore;
 
 use super::Refusal;
+use crate::data::Record;
 
-/// What a journal does to a marking.
-#[derive(Clone, Copy)]
-struct Record {
-    never: bool,
-    need_in: u64,
-    need_ex: u64,
-    need_out_or_ex: u64,
-    done: u64,
-    due_set: u64,
-    due_clear: u64,
-    in_set: u64,
-    in_clear: u64,
-}
+const IDENTITY: Record = Record::new([0; 9]);
+const NEVER: Record = Record { never: 1, ..IDENTITY };
 
-impl Record {
-    const IDENTITY: Record = Record {
-        never: false,
-        need_in: 0,
-        need_ex: 0,
-        need_out_or_ex: 0,
-        done: 0,
-        due_set: 0,
-        due_clear: 0,
-        in_set: 0,
-        in_clear: 0,
-    };
-
-    const NEVER: Record = Record { never: true, ..Record::IDENTITY };
-
-    /// Makes it well-formed without altering what it does.
-    #[inline]
-    fn tidy(self) -> Record {
-        let need_ex = self.need_ex | (self.need_in & self.need_out_or_ex);
-        Record {
-            need_ex,
-            need_out_or_ex: self.need_out_or_ex & !(self.need_in | need_ex),
-            done: self.done & !need_ex,
-            in_set: self.in_set & !self.need_in,
-            ..self
-        }
+/// Makes a record well-formed without altering what it does.
+#[inline]
+fn tidy(record: Record) -> Record {
+    let need_ex = record.need_ex | (record.need_in & record.need_out_or_ex);
+    Record {
+        need_ex,
+        need_out_or_ex: record.need_out_or_ex & !(record.need_in | need_ex),
+        done: record.done & !need_ex,
+        in_set: record.in_set & !record.need_in,
+        ..record
     }
 }
 
 /// Refuses a stated number of steps that is not 1 to 64.
-fn stated(n: u8) -> Result<(), Refusal> {
+#[inline]
+fn stated(n: u64) -> Result<(), Refusal> {
     if (1..=64).contains(&n) {
         Ok(())
     } else {

@@ -1,18 +1,21 @@
-use super::Record;
-use crate::data::{Graph, Marking};
+use super::{apply::applied, bytes::parse};
+use crate::data::{Graph, Marking, Ran};
 use crate::peer::{
-    check::{check, inside},
-    journal::entries,
-    run::run_entries,
-    Stop,
+    run::{ready, run_entries},
+    Refusal,
 };
 
-/// Applies the record in the bytes, then runs the rest of the journal and gives the number of its entries.
-pub fn restore(g: &Graph, record: &[u8], journal: &[u8], m: &mut Marking) -> Result<usize, Stop> {
-    check(g)?;
-    let entries = entries(journal)?;
-    inside(g.steps, m)?;
-    let given = Record::parse(g.steps, record)?.apply(*m)?;
-    *m = run_entries(g, given, entries)?;
-    Ok(entries.len())
+/// Applies the record in the bytes, then runs the rest of the journal.
+pub fn restore(g: &Graph, record: &[u8], journal: &[u8], m: Marking) -> Ran {
+    match given(g, record, journal, m) {
+        Ok((m, entries)) => run_entries(g, m, entries),
+        Err(refusal) => Ran { number: refusal.number(), marking: refusal.leaves(m), ..Ran::default() },
+    }
+}
+
+/// The marking that the record gives, and the entries of the rest.
+#[inline]
+fn given<'a>(g: &Graph, record: &[u8], journal: &'a [u8], m: Marking) -> Result<(Marking, &'a [[u8; 3]]), Refusal> {
+    let entries = ready(g, m, journal)?;
+    Ok((applied(&parse(g.steps, record)?, m)?, entries))
 }

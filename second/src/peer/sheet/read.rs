@@ -1,28 +1,33 @@
 use super::{BODIES, LONGEST};
 use crate::data::{Graph, Marking};
 use crate::peer::{
-    check::{check_counts, first},
-    Refusal,
+    check::{check_counts, first, inside},
+    number, Refusal,
 };
 
 /// Puts the sheet's graph and first marking where they are to lie, or leaves that as it is.
-pub fn read(sheet: &[u8], graph: &mut Graph, marking: &mut Marking) -> Result<(), Refusal> {
+pub fn read(sheet: &[u8], graph: &mut Graph, marking: &mut Marking) -> u64 {
+    number(place(sheet, graph, marking))
+}
+
+fn place(sheet: &[u8], graph: &mut Graph, marking: &mut Marking) -> Result<(), Refusal> {
     let [counts, sets, step_roles, person_roles, arrows] = bodies(sheet).ok_or(Refusal::Layout)?;
     let &[steps, people, roles] = counts else { return Err(Refusal::Layout) };
     let &[done, due, included] = sets.as_chunks().0 else { return Err(Refusal::Layout) };
-    check_counts(steps, people, roles)?;
+    let mut g = Graph::bare(steps.into(), people.into(), roles.into());
+    check_counts(g.steps, g.people, g.roles)?;
     if step_roles.len() != 2 * usize::from(steps) || person_roles.len() != 2 * usize::from(people) {
         return Err(Refusal::Bodies);
     }
-    let mut g = Graph::bare(steps, people, roles);
-    let m = Marking([done, due, included].map(u64::from_le_bytes));
+    let [done, due, included] = [done, due, included].map(u64::from_le_bytes);
+    let m = Marking { done, due, included };
     let union = read_roles(step_roles, &mut g.allows) | read_roles(person_roles, &mut g.holds);
-    if (m.0[0] | m.0[1] | m.0[2]) & !first(steps) != 0 || u64::from(union) & !first(roles) != 0 {
+    if inside(g.steps, m).is_err() || union & !first(g.roles) != 0 {
         return Err(Refusal::Beyond);
     }
-    read_arrows(arrows, &mut g)?;
+    read_arrows(arrows, steps, &mut g)?;
     if g.includes.iter().zip(&g.excludes).any(|(includes, excludes)| includes & excludes != 0) {
-        return Err(Refusal::IncludesAndExcludes);
+        return Err(Refusal::Both);
     }
     (*graph, *marking) = (g, m);
     Ok(())
@@ -49,20 +54,20 @@ fn bodies(sheet: &[u8]) -> Option<[&[u8]; 5]> {
 }
 
 /// Gives the union of the role sets.
-fn read_roles(body: &[u8], sets: &mut [u16]) -> u16 {
+fn read_roles(body: &[u8], sets: &mut [u64]) -> u64 {
     let mut union = 0;
     for (set, bytes) in sets.iter_mut().zip(body.as_chunks().0) {
-        *set = u16::from_le_bytes(*bytes);
+        *set = u16::from_le_bytes(*bytes).into();
         union |= *set;
     }
     union
 }
 
-fn read_arrows(body: &[u8], g: &mut Graph) -> Result<(), Refusal> {
+fn read_arrows(body: &[u8], steps: u8, g: &mut Graph) -> Result<(), Refusal> {
     let mut least = 0;
     for &[kind, from, to] in body.as_chunks().0 {
         let place = u32::from_be_bytes([0, kind, from, to]);
-        if from >= g.steps || to >= g.steps || place < least {
+        if from >= steps || to >= steps || place < least {
             return Err(Refusal::Arrows);
         }
         least = place + 1;

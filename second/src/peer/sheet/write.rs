@@ -1,31 +1,39 @@
 use super::BODIES;
-use crate::data::{Graph, Marking};
+use crate::data::{Graph, Marking, Written};
 use crate::peer::{
-    check::{check, inside},
+    check::{inside, well_formed},
     Refusal,
 };
 
-/// Writes the sheet to the beginning of the room and gives its length.
-pub fn write(g: &Graph, m: &Marking, room: &mut [u8]) -> Result<usize, Refusal> {
+/// Writes the sheet to the beginning of the room.
+pub fn write(g: &Graph, m: Marking, room: &mut [u8]) -> Written {
+    match placed(g, m, room) {
+        Ok(length) => Written { number: 0, length: length as u64 },
+        Err(refusal) => Written { number: refusal.number(), length: 0 },
+    }
+}
+
+fn placed(g: &Graph, m: Marking, room: &mut [u8]) -> Result<usize, Refusal> {
     // A marking beyond the counts is as bad as a graph beyond them, and comes before a pair that includes and excludes.
-    let checked = check(g);
-    if matches!(checked, Ok(()) | Err(Refusal::IncludesAndExcludes)) && inside(g.steps, m).is_err() {
+    let checked = well_formed(g);
+    if matches!(checked, Ok(()) | Err(Refusal::Both)) && inside(g.steps, m).is_err() {
         return Err(Refusal::Beyond);
     }
     checked?;
-    let (steps, people) = (usize::from(g.steps), usize::from(g.people));
+    let (steps, people) = (g.steps as usize, g.people as usize);
     let lengths = [3, 24, 2 * steps, 2 * people, 3 * count(g)];
     let length = BODIES + lengths.iter().sum::<usize>();
     let sheet = room.get_mut(..length).ok_or(Refusal::Room)?;
     let (contents, bodies) = sheet.split_at_mut(BODIES);
     write_contents(contents, lengths);
     let (counts, bodies) = bodies.split_at_mut(3);
-    counts.copy_from_slice(&[g.steps, g.people, g.roles]);
+    counts.copy_from_slice(&[g.steps, g.people, g.roles].map(|count| count as u8));
     let (marking, bodies) = bodies.split_at_mut(24);
-    marking.as_chunks_mut().0.iter_mut().zip(m.0).for_each(|(bytes, set)| *bytes = set.to_le_bytes());
+    let sets = [m.done, m.due, m.included];
+    marking.as_chunks_mut().0.iter_mut().zip(sets).for_each(|(bytes, set)| *bytes = set.to_le_bytes());
     let (roles, arrows) = bodies.split_at_mut(2 * (steps + people));
     let sets = g.allows[..steps].iter().chain(&g.holds[..people]);
-    roles.as_chunks_mut().0.iter_mut().zip(sets).for_each(|(bytes, set)| *bytes = set.to_le_bytes());
+    roles.as_chunks_mut().0.iter_mut().zip(sets).for_each(|(bytes, set)| *bytes = (*set as u16).to_le_bytes());
     write_arrows(arrows, g);
     Ok(length)
 }
