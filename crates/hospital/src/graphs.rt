@@ -2,8 +2,15 @@
 //
 // Steps: 0 sign, 1 give medicine, 2 prescribe medicine, 3 don't trust. Section 4 gives sign rank 1, so it stands first.
 // Roles: 0 doctor, 1 nurse. Person 0 is a doctor, person 1 a nurse.
-use rules::Graph;
 use moves::Marking;
+use rules::ALLOWS;
+use rules::CONDITIONS;
+use rules::EXCLUDES;
+use rules::HOLDS;
+use rules::INCLUDES;
+use rules::Job;
+use rules::RESPONSES;
+use rules::WORDS;
 
 pub const SIGN: u8 = 0;
 
@@ -27,50 +34,43 @@ pub const START_B: Marking = Marking {
 };
 
 // Fig. 3(a).
-pub fn prescribe() -> Graph {
-    let mut g = Graph {
-        steps: 3,
-        people: 2,
-        roles: 2,
-        allows: [0; 64],
-        holds: [0; 16],
-        conditions: [0; 64],
-        responses: [0; 64],
-        includes: [0; 64],
-        excludes: [0; 64],
-    };
+pub fn prescribe() -> Job {
+    let mut g = [0u64; WORDS];
+    g[0] = 3;
+    g[1] = 2;
+    g[2] = 2;
     // "D for Doctor and N for Nurse": the doctor prescribes and signs, the nurse gives.
-    g.holds[0] = 1;
-    g.holds[1] = 2;
-    g.allows[0] = 1;
-    g.allows[1] = 2;
-    g.allows[2] = 1;
+    g[HOLDS] = 1;
+    g[HOLDS + 1] = 2;
+    g[ALLOWS] = 1;
+    g[ALLOWS + 1] = 2;
+    g[ALLOWS + 2] = 1;
     // "The prescribe medicine event must happen at least once before the sign event."
-    g.conditions[0] = 4;
+    g[CONDITIONS] = 4;
     // "If the prescribe medicine event happen, subsequently at some point the sign event must happen", "similarly" give medicine.
-    g.responses[2] = 3;
+    g[RESPONSES + 2] = 3;
     // "The signature event must have happened before the medicine can be given."
-    g.conditions[1] = 1;
+    g[CONDITIONS + 1] = 1;
     g
 }
 
 // Fig. 3(b): Fig. 3(a) with don't trust.
-pub fn check() -> Graph {
+pub fn check() -> Job {
     let mut g = prescribe();
-    g.steps = 4;
+    g[0] = 4;
     // "The nurse have a choice to indicate distrust of prescription".
-    g.allows[3] = 2;
+    g[ALLOWS + 3] = 2;
     // In Fig. 5(a) don't trust is blocked until sign, "which enables give medicine and don't trust".
-    g.conditions[3] = 1;
+    g[CONDITIONS + 3] = 1;
     // "And thereby exclude give medicine until the doctor execute sign again."
-    g.excludes[3] = 2;
+    g[EXCLUDES + 3] = 2;
     // "Executing don't trust action will make sign a pending response."
-    g.responses[3] = 1;
+    g[RESPONSES + 3] = 1;
     // "Re-execute sign which will include give medicine". That sign also includes don't trust is a choice: give medicine excludes it, and
     // after a new prescription "it should be possible to indicate" distrust anew. In the runs of Fig. 5 don't trust is included
     // whenever sign is done, so that no state of them depends on it.
-    g.includes[0] = 10;
+    g[INCLUDES] = 10;
     // "Executing the give medicine event, excluding the don't trust event."
-    g.excludes[1] = 8;
+    g[EXCLUDES + 1] = 8;
     g
 }

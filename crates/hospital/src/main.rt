@@ -7,10 +7,10 @@ use graphs::SIGN;
 use graphs::START_A;
 use graphs::START_B;
 use moves::Entry;
-use rules::Graph;
 use moves::Marking;
 use moves::Move;
 use moves::Step;
+use rules::Job;
 use show::say;
 use show::say_marking;
 use show::say_name;
@@ -39,7 +39,7 @@ fn by(s: u8) -> Entry {
 }
 
 // Take a step and show the state after it.
-fn act(g: Graph, m: Marking, s: u8) -> Marking {
+fn act(g: &Job, m: Marking, s: u8) -> Marking {
     say_name(s);
     let o = rules::take(g, m, by(s));
     match o {
@@ -57,8 +57,7 @@ fn act(g: Graph, m: Marking, s: u8) -> Marking {
 
 // "The nurse can give medicine many times, and the doctor can at any point choose to prescribe new medicine and sign again. (This will
 // not block the nurse from continue to give medicine.)"
-fn figure_3a() {
-    let g = graphs::prescribe();
+fn figure_3a(g: &Job) {
     say(b"Fig. 3(a)\nstart\n");
     say_marking(g, START_A);
     let a = act(g, START_A, GIVE);
@@ -75,8 +74,7 @@ fn figure_3a() {
 // prescribe medicine, now showing that sign and give medicine are required as responses and that sign is no longer blocked. The third
 // state is the result of executing the sign event, which enables give medicine and don't trust. Finally, the fourth state is the result
 // of executing the give medicine event, excluding the don't trust event."
-fn figure_5a() {
-    let g = graphs::check();
+fn figure_5a(g: &Job) {
     say(b"\nFig. 5(a)\nstart\n");
     say_marking(g, START_B);
     let second = act(g, START_B, PRESCRIBE);
@@ -88,8 +86,7 @@ fn figure_5a() {
 // is excluded (but still required as response if it gets included again) and sign is required as response. The fifth state shows the
 // result of the doctor executing sign, which re-includes give medicine, which is then executed, leading to the final state where all
 // events have been executed, and don't trust is excluded."
-fn figure_5b() {
-    let g = graphs::check();
+fn figure_5b(g: &Job) {
     say(b"\nFig. 5(b)\nstart\n");
     say_marking(g, START_B);
     let second = act(g, START_B, PRESCRIBE);
@@ -100,7 +97,7 @@ fn figure_5b() {
 }
 
 // A step of the automaton.
-fn track(g: Graph, t: Track, s: u8) -> Track {
+fn track(g: &Job, t: Track, s: u8) -> Track {
     say_name(s);
     let o = tracker::advance(g, t, by(s));
     match o {
@@ -122,8 +119,7 @@ fn track(g: Graph, t: Track, s: u8) -> Track {
 // "Both states have the two events s (having rank 1) and gm as pending responses. In state S7 only executing event s leads to an
 // accepting state (S10). The result of executing event gm is to move to state S9 which is not accepting. Dually, in state S11 only
 // executing event gm leads to an accepting state (S16). The result of executing event s is to move to state S12 which is not accepting."
-fn figure_6() {
-    let g = graphs::prescribe();
+fn figure_6(g: &Job) {
     say(b"\nFig. 6\nstart");
     let o = tracker::start(g, START_A);
     let Tracked::At(start) = o else {
@@ -149,8 +145,10 @@ fn figure_6() {
 }
 
 fn main() {
-    figure_3a();
-    figure_5a();
-    figure_5b();
-    figure_6();
+    let a = graphs::prescribe();
+    let b = graphs::check();
+    figure_3a(&a);
+    figure_5a(&b);
+    figure_5b(&b);
+    figure_6(&a);
 }

@@ -1,6 +1,7 @@
 // States as plain lines.
-use rules::Graph;
 use moves::Marking;
+use rules::CONDITIONS;
+use rules::Job;
 use tracker::Track;
 
 pub fn say(text: &[u8]) {
@@ -42,12 +43,12 @@ fn say_step(conditions: u64, m: Marking, s: u8) {
     say(b"\n");
 }
 
-pub fn say_marking(g: Graph, m: Marking) {
-    say_step(g.conditions[2], m, 2);
-    say_step(g.conditions[0], m, 0);
-    say_step(g.conditions[1], m, 1);
-    if 3 < g.steps {
-        say_step(g.conditions[3], m, 3);
+pub fn say_marking(g: &Job, m: Marking) {
+    say_step(g[CONDITIONS + 2], m, 2);
+    say_step(g[CONDITIONS], m, 0);
+    say_step(g[CONDITIONS + 1], m, 1);
+    if 3 < g[0] {
+        say_step(g[CONDITIONS + 3], m, 3);
     }
     if m.due & m.included == 0 {
         say(b"  finished\n");

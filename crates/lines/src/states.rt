@@ -3,10 +3,10 @@ use crate::refusals::say_refused;
 use crate::say::say;
 use crate::say::say_group;
 use crate::say::say_number;
-use records::Record;
-use rules::Ending;
 use moves::Entry;
 use moves::Marking;
+use records::Record;
+use rules::Ending;
 
 pub fn say_marking(m: Marking) {
     say_group(b"done", m.done);

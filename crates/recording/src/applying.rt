@@ -3,12 +3,12 @@ use files::writing::Target;
 use journal::Walked;
 use lines::refusals::say_refused;
 use lines::states::say_marking;
+use moves::Marking;
+use moves::Refusal;
 use records::Applied;
 use records::Record;
 use records::Recorded;
-use moves::Marking;
-use moves::Refusal;
-use moves::Verdict;
+use rules::Job;
 use running::markings::keep_marking;
 use running::markings::say_kept;
 use running::runs::say_ran;
@@ -36,7 +36,7 @@ fn say_applied(o: Applied, t: Target) {
     }
 }
 
-fn apply_read(n: u8, bytes: &[u8], m: Marking, t: Target) {
+fn apply_read(n: u64, bytes: &[u8], m: Marking, t: Target) {
     let o = spelling::read(n, bytes);
     match o {
         Recorded::Made(r) => say_applied(r.apply(m, n), t),
@@ -45,7 +45,7 @@ fn apply_read(n: u8, bytes: &[u8], m: Marking, t: Target) {
 }
 
 // 2 and 8 come before 10, which the record's bytes alone can give: the identity, which always applies, asks for them first.
-pub fn apply(n: u8, bytes: &[u8], m: Marking, t: Target) {
+pub fn apply(n: u64, bytes: &[u8], m: Marking, t: Target) {
     let o = Record::IDENTITY.apply(m, n);
     match o {
         Applied::Gives(_) => apply_read(n, bytes, m, t),
@@ -54,22 +54,15 @@ pub fn apply(n: u8, bytes: &[u8], m: Marking, t: Target) {
 }
 
 // 7 comes before 10, so that the journal's length is asked for first.
-pub fn restore(s: &[u8], bytes: &[u8], j: &[u8], t: Target) {
-    let o = sheet::read(s);
-    let v = o.verdict;
-    if let Verdict::Refused(r) = v {
-        say_refused(r);
-        return;
-    }
+pub fn restore(g: &Job, m: Marking, bytes: &[u8], j: &[u8], t: Target) {
     let w = journal::walk_at(j, 0).said;
     if let Walked::Refused(r) = w {
         say_refused(r);
         return;
     }
-    let g = o.graph;
-    let read = spelling::read(g.steps, bytes);
-    match read {
-        Recorded::Made(r) => say_ran(g, folding::restore(g, r, j, o.first), j, t),
+    let o = spelling::read(g[0], bytes);
+    match o {
+        Recorded::Made(r) => say_ran(g, folding::restore(g, r, j, m), j, t),
         Recorded::Refused(r) => say_refused(r),
     }
 }

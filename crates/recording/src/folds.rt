@@ -4,12 +4,13 @@ use files::writing::store_to;
 use lines::refusals::say_refused;
 use lines::say::say_wrote;
 use lines::states::say_record;
+use moves::Verdict;
 use records::Record;
 use records::Recorded;
-use moves::Verdict;
+use rules::Job;
 
 // The record of n steps to its file, and then its lines.
-fn keep_record(n: u8, r: Record, t: Target) {
+fn keep_record(n: u64, r: Record, t: Target) {
     let mut room = [0u8; 65];
     let v = spelling::write(n, r, &mut room);
     match v {
@@ -23,25 +24,18 @@ fn keep_record(n: u8, r: Record, t: Target) {
     }
 }
 
-fn say_made(n: u8, o: Recorded, t: Target) {
+fn say_made(n: u64, o: Recorded, t: Target) {
     match o {
         Recorded::Made(r) => keep_record(n, r, t),
         Recorded::Refused(r) => say_refused(r),
     }
 }
 
-pub fn fold(s: &[u8], j: &[u8], t: Target) {
-    let o = sheet::read(s);
-    let v = o.verdict;
-    if let Verdict::Refused(r) = v {
-        say_refused(r);
-        return;
-    }
-    let g = o.graph;
-    say_made(g.steps, folding::fold(g, j), t);
+pub fn fold(g: &Job, j: &[u8], t: Target) {
+    say_made(g[0], folding::fold(g, j), t);
 }
 
-pub fn join(n: u8, a: &[u8], b: &[u8], t: Target) {
+pub fn join(n: u64, a: &[u8], b: &[u8], t: Target) {
     let first = spelling::read(n, a);
     let second = spelling::read(n, b);
     match first {

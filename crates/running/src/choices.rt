@@ -1,7 +1,6 @@
 // Who may take which step now, and what keeps the others back.
 use crate::runs::say_stopped;
 use journal::Ran;
-use lines::refusals::say_refused;
 use lines::say::say;
 use lines::say::say_count;
 use lines::say::say_number;
@@ -9,11 +8,11 @@ use lines::say::say_set;
 use lines::states::say_ending;
 use lines::states::say_marking;
 use moves::Entry;
-use rules::Graph;
 use moves::Marking;
 use moves::Move;
 use moves::Step;
-use moves::Verdict;
+use rules::CONDITIONS;
+use rules::Job;
 
 // The step stands first: the lines go step by step.
 fn say_may(e: Entry) {
@@ -27,7 +26,7 @@ fn say_may(e: Entry) {
 }
 
 // May the person take the step in the role? Then it is said.
-fn may_take(g: Graph, m: Marking, e: Entry) -> bool {
+fn may_take(g: &Job, m: Marking, e: Entry) -> bool {
     let o = rules::take(g, m, e);
     match o {
         Move::Moved(_) => {
@@ -38,7 +37,7 @@ fn may_take(g: Graph, m: Marking, e: Entry) -> bool {
     }
 }
 
-fn some_role(g: Graph, m: Marking, s: u8, p: u8) -> bool {
+fn some_role(g: &Job, m: Marking, s: u8, p: u8) -> bool {
     let mut found = false;
     let mut r = 0;
     while r < 16 {
@@ -53,7 +52,7 @@ fn some_role(g: Graph, m: Marking, s: u8, p: u8) -> bool {
     found
 }
 
-fn some_person(g: Graph, m: Marking, s: u8) -> bool {
+fn some_person(g: &Job, m: Marking, s: u8) -> bool {
     let mut found = false;
     let mut p = 0;
     while p < 16 {
@@ -68,7 +67,7 @@ fn say_blocked(s: u8) {
     say_number(s as u64);
 }
 
-fn say_choice(g: Graph, conditions: u64, m: Marking, s: u8) {
+fn say_choice(g: &Job, m: Marking, s: u8) {
     if 63 < s {
         return;
     }
@@ -77,7 +76,8 @@ fn say_choice(g: Graph, conditions: u64, m: Marking, s: u8) {
         say(b", not included\n");
         return;
     }
-    let waited = moves::inner::waits(conditions, m);
+    let i = s as usize;
+    let waited = moves::inner::waits(g[CONDITIONS + i], m);
     if waited != 0 {
         say_blocked(s);
         say(b", waits for ");
@@ -91,35 +91,27 @@ fn say_choice(g: Graph, conditions: u64, m: Marking, s: u8) {
     }
 }
 
-fn say_choices(g: Graph, m: Marking) {
+fn say_choices(g: &Job, m: Marking) {
     let mut s = 0;
     while s < 64 {
-        if s < g.steps {
-            let i = s as usize;
-            say_choice(g, g.conditions[i], m, s);
+        if (s as u64) < g[0] {
+            say_choice(g, m, s);
         }
         s += 1;
     }
 }
 
-fn say_open(g: Graph, m: Marking, entries: u16) {
+fn say_open(g: &Job, m: Marking, entries: u16) {
     say_count(b"entries", entries as u64);
     say_marking(m);
     say_choices(g, m);
     say_ending(rules::finished(g, m), m);
 }
 
-pub fn may(s: &[u8], j: &[u8]) {
-    let o = sheet::read(s);
-    let v = o.verdict;
-    if let Verdict::Refused(r) = v {
-        say_refused(r);
-        return;
-    }
-    let g = o.graph;
-    let ran = journal::run(g, o.first, j);
-    match ran {
-        Ran::Ended(m, entries) => say_open(g, m, entries),
-        Ran::Stopped(k, r, m) => say_stopped(j, k, r, m),
+pub fn may(g: &Job, m: Marking, j: &[u8]) {
+    let o = journal::run(g, m, j);
+    match o {
+        Ran::Ended(end, entries) => say_open(g, end, entries),
+        Ran::Stopped(k, r, before) => say_stopped(j, k, r, before),
     }
 }

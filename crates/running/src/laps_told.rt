@@ -6,8 +6,9 @@ use lines::refusals::say_refused;
 use lines::refusals::say_waited;
 use lines::say::say;
 use lines::say::say_count;
+use moves::Marking;
 use moves::Refusal;
-use moves::Verdict;
+use rules::Job;
 
 fn say_pass(p: Pass) {
     match p {
@@ -31,15 +32,9 @@ fn say_halt(stem: &[u8], lap: &[u8], k: u16, p: Pass, r: Refusal) {
     say_waited(r);
 }
 
-pub fn lap(s: &[u8], stem: &[u8], again: &[u8]) {
-    let o = sheet::read(s);
-    let v = o.verdict;
-    if let Verdict::Refused(r) = v {
-        say_refused(r);
-        return;
-    }
-    let l = laps::lap(o.graph, o.first, stem, again);
-    match l {
+pub fn lap(g: &Job, m: Marking, stem: &[u8], again: &[u8]) {
+    let o = laps::lap(g, m, stem, again);
+    match o {
         Lapped::Accepted => say(b"verdict: accepted\n"),
         Lapped::Starved(step) => {
             say(b"verdict: starved\n");

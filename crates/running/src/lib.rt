@@ -1,4 +1,4 @@
-// Journals run from a sheet's first marking: how they end, who may go on, laps without end, and the tracker.
+// Journals run from a marking: how they end, who may go on, laps without end, and the tracker.
 pub mod choices;
 pub mod laps_told;
 pub mod markings;

@@ -1,4 +1,4 @@
-// Journals run from a sheet's first marking.
+// Journals run from a marking.
 use crate::markings::keep_marking;
 use crate::markings::say_kept;
 use files::writing::Target;
@@ -11,15 +11,13 @@ use lines::say::say_count;
 use lines::states::say_ending;
 use lines::states::say_entry;
 use lines::states::say_marking;
-use rules::Graph;
 use moves::Marking;
 use moves::Refusal;
-use moves::Verdict;
+use rules::Job;
 
 // Entry k of the journal, as a line.
 pub fn say_entry_at(j: &[u8], k: u16) {
-    let o = journal::walk_at(j, k as usize);
-    let w = o.said;
+    let w = journal::walk_at(j, k as usize).said;
     if let Walked::At(e) = w {
         say_entry(k as u64, e);
         say(b"\n");
@@ -40,7 +38,7 @@ pub fn say_stopped(j: &[u8], k: u16, r: Refusal, m: Marking) {
     say_marking(m);
 }
 
-fn say_ended(g: Graph, m: Marking, entries: u16, t: Target) {
+fn say_ended(g: &Job, m: Marking, entries: u16, t: Target) {
     if !keep_marking(t, m) {
         return;
     }
@@ -50,20 +48,13 @@ fn say_ended(g: Graph, m: Marking, entries: u16, t: Target) {
     say_kept(t);
 }
 
-pub fn say_ran(g: Graph, o: Ran, j: &[u8], t: Target) {
+pub fn say_ran(g: &Job, o: Ran, j: &[u8], t: Target) {
     match o {
         Ran::Ended(m, entries) => say_ended(g, m, entries, t),
         Ran::Stopped(k, r, m) => say_stopped(j, k, r, m),
     }
 }
 
-pub fn run(s: &[u8], j: &[u8], t: Target) {
-    let o = sheet::read(s);
-    let v = o.verdict;
-    if let Verdict::Refused(r) = v {
-        say_refused(r);
-        return;
-    }
-    let g = o.graph;
-    say_ran(g, journal::run(g, o.first, j), j, t);
+pub fn run(g: &Job, m: Marking, j: &[u8], t: Target) {
+    say_ran(g, journal::run(g, m, j), j, t);
 }

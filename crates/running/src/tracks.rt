@@ -9,9 +9,9 @@ use lines::say::say_number;
 use lines::states::say_entry;
 use lines::states::say_marking;
 use moves::Entry;
-use rules::Graph;
+use moves::Marking;
 use moves::Refusal;
-use moves::Verdict;
+use rules::Job;
 use tracker::Track;
 use tracker::Tracked;
 
@@ -41,7 +41,7 @@ fn say_stays(k: usize, e: Entry, r: Refusal, t: Track) {
 }
 
 // Entry k, from a state.
-fn advanced(g: Graph, t: Track, k: usize, e: Entry) -> Going {
+fn advanced(g: &Job, t: Track, k: usize, e: Entry) -> Going {
     let o = tracker::advance(g, t, e);
     match o {
         Tracked::At(next) => {
@@ -71,9 +71,8 @@ fn advanced(g: Graph, t: Track, k: usize, e: Entry) -> Going {
 }
 
 // The entry that the journal has at k, if it has one.
-fn onward(g: Graph, t: Track, j: &[u8], k: usize) -> Going {
-    let o = journal::walk_at(j, k);
-    let w = o.said;
+fn onward(g: &Job, t: Track, j: &[u8], k: usize) -> Going {
+    let w = journal::walk_at(j, k).said;
     match w {
         Walked::At(e) => advanced(g, t, k, e),
         Walked::End => Going {
@@ -88,7 +87,7 @@ fn onward(g: Graph, t: Track, j: &[u8], k: usize) -> Going {
 }
 
 // A journal has at most 21,845 entries.
-fn follow(g: Graph, start: Track, j: &[u8]) -> Track {
+fn follow(g: &Job, start: Track, j: &[u8]) -> Track {
     let mut at = Going {
         track: start,
         on: true,
@@ -104,29 +103,21 @@ fn follow(g: Graph, start: Track, j: &[u8]) -> Track {
     at.track
 }
 
-fn say_tracked(g: Graph, t: Track, j: &[u8]) {
+fn say_tracked(g: &Job, t: Track, j: &[u8]) {
     say(b"start: ");
     say_place(t);
     let end = follow(g, t, j);
     say_marking(end.marking);
 }
 
-pub fn track(s: &[u8], j: &[u8]) {
-    let o = sheet::read(s);
-    let v = o.verdict;
-    if let Verdict::Refused(r) = v {
-        say_refused(r);
-        return;
-    }
-    let first = journal::walk_at(j, 0);
-    let w = first.said;
+pub fn track(g: &Job, m: Marking, j: &[u8]) {
+    let w = journal::walk_at(j, 0).said;
     if let Walked::Refused(r) = w {
         say_refused(r);
         return;
     }
-    let g = o.graph;
-    let t = tracker::start(g, o.first);
-    match t {
+    let o = tracker::start(g, m);
+    match o {
         Tracked::At(start) => say_tracked(g, start, j),
         Tracked::Stays(r, _) => say_refused(r),
         Tracked::Refused(r) => say_refused(r),

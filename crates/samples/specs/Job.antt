@@ -4,11 +4,11 @@ use mathlib.Core.List.{List, [], _∷_}
 use mathlib.Core.Bool.{Bool, false, _&&_, cond}
 use lib.Dec.{eqb}
 use Rattle.sets.specs.Sets.{single, union}
-use Rattle.rules.specs.declared.Graph.{Graph}
 use Rattle.moves.specs.declared.Marking.{Marking}
 use Rattle.moves.specs.declared.Entry.{Entry}
 use Rattle.moves.specs.declared.Move.{Move}
 use Rattle.moves.specs.Move.{numberOfMove, stepOfMove, markingOfMove}
+use Rattle.rules.specs.Graph.{Graph}
 use Rattle.records.specs.declared.Recorded.{Recorded}
 use Rattle.tracker.specs.declared.Tracked.{Tracked}
 use Rattle.tracker.specs.Tracker.{theStep}
@@ -60,12 +60,12 @@ graph steps people roles stepRoles held arrows =
       steps = steps;
       people = people;
       roles = roles;
-      allows = rows 64 stepRoles;
-      holds = rows 16 held;
       conditions = table 64 0 (sources 0 arrows);
       responses = table 64 0 (targets 1 arrows);
       includes = table 64 0 (targets 2 arrows);
       excludes = table 64 0 (targets 3 arrows);
+      allows = rows 64 stepRoles;
+      holds = rows 16 held;
     }
 
 -- an answer to a step: the number, the step that goes with it, the marking

@@ -5,10 +5,10 @@ use mathlib.Core.List.{List, [], _∷_}
 use mathlib.Core.Bool.{true, false}
 use Rattle.sets.specs.Sets.{has, full, scan, lowest, every}
 use Rattle.moves.specs.First.{first, numberOf, stepOf}
+use Rattle.moves.specs.Move.{moveOf, isFinished, numberOfMove, stepOfMove, markingOfMove}
 use Rattle.tables.specs.Tables.{keeps}
 use Rattle.rules.specs.Graph.{setsFit}
 use Rattle.rules.specs.Answers.{theMove, entryMove}
-use Rattle.moves.specs.Move.{moveOf, isFinished, numberOfMove, stepOfMove, markingOfMove}
 use Rattle.journal.specs.Journal.{entries}
 use Rattle.records.specs.declared.Recorded.{Recorded}
 use Rattle.records.specs.Records.{impossible, tidy, join}

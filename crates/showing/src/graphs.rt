@@ -4,13 +4,19 @@ use lines::say::say;
 use lines::say::say_count;
 use lines::say::say_number;
 use lines::say::say_set;
-use rules::Graph;
 use moves::Marking;
+use rules::ALLOWS;
+use rules::CONDITIONS;
+use rules::EXCLUDES;
+use rules::HOLDS;
+use rules::INCLUDES;
+use rules::Job;
+use rules::RESPONSES;
 
-pub fn say_counts(g: Graph) {
-    say_count(b"steps", g.steps as u64);
-    say_count(b"people", g.people as u64);
-    say_count(b"roles", g.roles as u64);
+pub fn say_counts(g: &Job) {
+    say_count(b"steps", g[0]);
+    say_count(b"people", g[1]);
+    say_count(b"roles", g[2]);
 }
 
 // How many steps a row names: no more than there are bits in a word.
@@ -20,53 +26,43 @@ fn named(x: u64) -> u64
     (u64::count_ones(x) % 65) as u64
 }
 
-fn arrows_in(table: &[u64; 64]) -> u64
-    ensures { λ r. ⌜ r ≤ 4096 ⌝ }
-{
+// The four tables of arrows stand one behind the other.
+pub fn say_arrow_count(g: &Job) {
     let mut total = 0;
-    let mut i = 0;
-    while i < 64 {
-        total += named(table[i]);
+    let mut i = CONDITIONS;
+    while i < ALLOWS {
+        total += named(g[i]);
         i += 1;
     }
-    total
+    say_count(b"arrows", total);
 }
 
-pub fn say_arrow_count(g: Graph) {
-    let waits = arrows_in(&g.conditions);
-    let promises = arrows_in(&g.responses);
-    let opens = arrows_in(&g.includes);
-    let shuts = arrows_in(&g.excludes);
-    say_count(b"arrows", waits + promises + opens + shuts);
-}
-
-fn say_person(holds: u16, p: u8) {
+fn say_person(p: u64, roles: u64) {
     say(b"person ");
-    say_number(p as u64);
+    say_number(p);
     say(b": roles ");
-    say_set(holds as u64);
+    say_set(roles);
     say(b"\n");
 }
 
-pub fn say_people(g: Graph) {
+pub fn say_people(g: &Job) {
     let mut p = 0;
     while p < 16 {
-        if p < g.people {
-            let i = p as usize;
-            say_person(g.holds[i], p);
+        if (p as u64) < g[1] {
+            say_person(p as u64, g[HOLDS + p]);
         }
         p += 1;
     }
 }
 
-fn say_step(allows: u16, m: Marking, s: u8) {
+fn say_step(s: u8, roles: u64, m: Marking) {
     if 63 < s {
         return;
     }
     say(b"step ");
     say_number(s as u64);
     say(b": roles ");
-    say_set(allows as u64);
+    say_set(roles);
     if sets::has(m.included, s) {
         say(b", included");
     } else {
@@ -81,44 +77,43 @@ fn say_step(allows: u16, m: Marking, s: u8) {
     say(b"\n");
 }
 
-pub fn say_steps(g: Graph, m: Marking) {
+pub fn say_steps(g: &Job, m: Marking) {
     let mut s = 0;
     while s < 64 {
-        if s < g.steps {
-            let i = s as usize;
-            say_step(g.allows[i], m, s);
+        if (s as u64) < g[0] {
+            say_step(s as u8, g[ALLOWS + s], m);
         }
         s += 1;
     }
 }
 
-fn say_pair(kind: &[u8], a: u8, b: u8) {
+fn say_pair(kind: &[u8], a: u64, b: u64) {
     say(kind);
     say(b" ");
-    say_number(a as u64);
+    say_number(a);
     say(b" ");
-    say_number(b as u64);
+    say_number(b);
 }
 
-fn say_doing(a: u8, does: &[u8], b: u8, end: &[u8]) {
+fn say_doing(a: u64, does: &[u8], b: u64, end: &[u8]) {
     say(b": doing step ");
-    say_number(a as u64);
+    say_number(a);
     say(does);
-    say_number(b as u64);
+    say_number(b);
     say(end);
 }
 
-fn say_condition(a: u8, b: u8) {
+fn say_condition(a: u64, b: u64) {
     say_pair(b"condition", a, b);
     say(b": if step ");
-    say_number(a as u64);
+    say_number(a);
     say(b" is included, it must have been done before step ");
-    say_number(b as u64);
+    say_number(b);
     say(b"\n");
 }
 
 // The arrow from a to b, of the kind with that number in the sheet.
-fn say_arrow(kind: u8, a: u8, b: u8) {
+fn say_arrow(kind: u8, a: u64, b: u64) {
     match kind {
         0 => say_condition(a, b),
         1 => {
@@ -137,33 +132,34 @@ fn say_arrow(kind: u8, a: u8, b: u8) {
 }
 
 // The arrows of a kind from a to the steps of x.
-fn say_row(kind: u8, a: u8, x: u64) {
+fn say_row(kind: u8, a: u64, x: u64) {
     let mut b = 0;
     while b < 64 {
         if sets::has(x, b) {
-            say_arrow(kind, a, b);
+            say_arrow(kind, a, b as u64);
         }
         b += 1;
     }
 }
 
-fn say_kind(kind: u8, table: &[u64; 64]) {
+fn say_kind(kind: u8, rows: &[u64]) {
     let mut a = 0;
-    while a < 64 {
-        let i = a as usize;
-        say_row(kind, a, table[i]);
+    while a < rows.len() {
+        say_row(kind, a as u64, rows[a]);
         a += 1;
     }
 }
 
 // A graph holds a condition with the step that waits; the line has it from the step that is waited for.
-pub fn say_arrows(g: Graph) {
-    if 64 < g.steps {
+pub fn say_arrows(g: &Job) {
+    let steps = g[0];
+    if 64 < steps {
         return;
     }
-    let turned = arrows::turned(g.steps, &g.conditions);
+    let w = &g[..];
+    let turned = arrows::turned(steps as u8, &w[CONDITIONS..RESPONSES]);
     say_kind(0, &turned);
-    say_kind(1, &g.responses);
-    say_kind(2, &g.includes);
-    say_kind(3, &g.excludes);
+    say_kind(1, &w[RESPONSES..INCLUDES]);
+    say_kind(2, &w[INCLUDES..EXCLUDES]);
+    say_kind(3, &w[EXCLUDES..ALLOWS]);
 }

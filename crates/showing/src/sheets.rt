@@ -11,31 +11,17 @@ use lines::refusals::say_refused;
 use lines::say::say;
 use lines::say::say_wrote;
 use lines::states::say_ending;
-use moves::Verdict;
+use moves::Marking;
+use rules::Job;
 use sheet::Written;
 
-pub fn check(s: &[u8]) {
-    let o = sheet::read(s);
-    let v = o.verdict;
-    if let Verdict::Refused(r) = v {
-        say_refused(r);
-        return;
-    }
-    let g = o.graph;
+pub fn check(g: &Job) {
     say(b"sheet: ok\n");
     say_counts(g);
     say_arrow_count(g);
 }
 
-pub fn show(s: &[u8]) {
-    let o = sheet::read(s);
-    let v = o.verdict;
-    if let Verdict::Refused(r) = v {
-        say_refused(r);
-        return;
-    }
-    let g = o.graph;
-    let m = o.first;
+pub fn show(g: &Job, m: Marking) {
     say_counts(g);
     say_people(g);
     say_steps(g, m);
@@ -45,15 +31,9 @@ pub fn show(s: &[u8]) {
 }
 
 // The sheet of what was read.
-pub fn write(s: &[u8], t: Target) {
-    let o = sheet::read(s);
-    let v = o.verdict;
-    if let Verdict::Refused(r) = v {
-        say_refused(r);
-        return;
-    }
+pub fn write(g: &Job, m: Marking, t: Target) {
     let mut room = io::large_buffer();
-    let w = sheet::write(o.graph, o.first, &mut room);
+    let w = sheet::write(g, m, &mut room);
     match w {
         Written::Length(n) => {
             if store_to(t, front(&room, n)) {

@@ -2,8 +2,15 @@
 //
 // Steps: 0 reboot, 1 order check, 2 publish. Roles: 0 climber, 1 desk. Person 0 is a climber, person 1 sits at the desk.
 use lines::say::say;
-use rules::Graph;
 use moves::Marking;
+use rules::ALLOWS;
+use rules::CONDITIONS;
+use rules::EXCLUDES;
+use rules::HOLDS;
+use rules::INCLUDES;
+use rules::Job;
+use rules::RESPONSES;
+use rules::WORDS;
 
 pub const REBOOT: [u8; 3] = [0, 0, 0];
 
@@ -19,28 +26,21 @@ pub const START: Marking = Marking {
     included: 7,
 };
 
-pub fn job() -> Graph {
-    let mut g = Graph {
-        steps: 3,
-        people: 2,
-        roles: 2,
-        allows: [0; 64],
-        holds: [0; 16],
-        conditions: [0; 64],
-        responses: [0; 64],
-        includes: [0; 64],
-        excludes: [0; 64],
-    };
-    g.holds[0] = 1;
-    g.holds[1] = 2;
-    g.allows[0] = 3;
-    g.allows[1] = 1;
-    g.allows[2] = 2;
+pub fn job() -> Job {
+    let mut g = [0u64; WORDS];
+    g[0] = 3;
+    g[1] = 2;
+    g[2] = 2;
+    g[HOLDS] = 1;
+    g[HOLDS + 1] = 2;
+    g[ALLOWS] = 3;
+    g[ALLOWS + 1] = 1;
+    g[ALLOWS + 2] = 2;
     // Publishing waits for the check; a reboot makes the check due and shuts publishing out, and the check lets it in again.
-    g.conditions[2] = 2;
-    g.responses[0] = 2;
-    g.includes[1] = 4;
-    g.excludes[0] = 4;
+    g[CONDITIONS + 2] = 2;
+    g[RESPONSES] = 2;
+    g[INCLUDES + 1] = 4;
+    g[EXCLUDES] = 4;
     g
 }
 

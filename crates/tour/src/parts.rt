@@ -4,13 +4,13 @@ use crate::job::DAY;
 use crate::job::PUBLISH;
 use crate::job::REBOOT;
 use crate::job::START;
-use crate::job::job;
 use files::complaints::complain_error;
 use files::writing::front;
 use files::writing::store;
 use lines::refusals::say_refused;
 use lines::say::say;
 use lines::say::say_number;
+use rules::Job;
 use sheet::Written;
 
 // The text behind what the room holds already, as far as it fits; the place after it.
@@ -45,9 +45,9 @@ fn store_part(folder: &[u8], name: &[u8], force: bool, bytes: &[u8]) -> bool {
     true
 }
 
-fn store_sheet(folder: &[u8], force: bool) -> bool {
+fn store_sheet(g: &Job, folder: &[u8], force: bool) -> bool {
     let mut room = [0u8; 128];
-    let o = sheet::write(job(), START, &mut room);
+    let o = sheet::write(g, START, &mut room);
     match o {
         Written::Length(n) => store_part(folder, b"job.sheet", force, front(&room, n)),
         Written::Refused(r) => {
@@ -92,11 +92,11 @@ fn has_folder(folder: &[u8]) -> bool {
 }
 
 // Are all the files there? Else it was complained of.
-pub fn store_parts(folder: &[u8], force: bool) -> bool {
+pub fn store_parts(g: &Job, folder: &[u8], force: bool) -> bool {
     if !has_folder(folder) {
         return false;
     }
-    if !store_sheet(folder, force) {
+    if !store_sheet(g, folder, force) {
         return false;
     }
     if !store_marking(folder, force) {

@@ -15,15 +15,15 @@ use lines::say::say_number;
 use lines::states::say_ending;
 use lines::states::say_marking;
 use lines::states::say_record;
-use records::Record;
-use records::Recorded;
 use moves::Entry;
-use rules::Graph;
 use moves::Marking;
 use moves::Move;
 use moves::Step;
+use records::Record;
+use records::Recorded;
+use rules::Job;
 
-fn say_state(g: Graph, m: Marking) {
+fn say_state(g: &Job, m: Marking) {
     say_marking(m);
     say_ending(rules::finished(g, m), m);
 }
@@ -39,7 +39,7 @@ fn say_wish(e: Entry) {
 }
 
 // Somebody wants to take a step. The marking after it, or the same where it is not allowed.
-fn tried(g: Graph, m: Marking, who: [u8; 3]) -> Marking {
+fn tried(g: &Job, m: Marking, who: [u8; 3]) -> Marking {
     let e = Entry {
         person: who[0],
         step: Step(who[1]),
@@ -63,7 +63,7 @@ fn tried(g: Graph, m: Marking, who: [u8; 3]) -> Marking {
 }
 
 // What follows where the cabinet has started again.
-fn go_on(g: Graph, m: Marking) {
+fn go_on(g: &Job, m: Marking) {
     say_state(g, m);
     let still = tried(g, m, PUBLISH);
     say(
@@ -73,7 +73,7 @@ fn go_on(g: Graph, m: Marking) {
     tried(g, checked, PUBLISH);
 }
 
-fn start_again(g: Graph, r: Record) {
+fn start_again(g: &Job, r: Record) {
     say_record(r);
     say(b"\nThe cabinet forgets the journal and starts again from the record:\n");
     let o = folding::restore(g, r, b"", START);
@@ -83,7 +83,7 @@ fn start_again(g: Graph, r: Record) {
     }
 }
 
-fn say_walk(g: Graph) {
+fn say_walk(g: &Job) {
     say(
         b"\nA job of three steps: 0 reboot, 1 order check, 2 publish. After a reboot the order of the sensors is checked\n",
     );
@@ -103,7 +103,8 @@ fn say_walk(g: Graph) {
 
 // The files into the folder, then the walk.
 pub fn sample(folder: &[u8], force: bool) {
-    if store_parts(folder, force) {
-        say_walk(job());
+    let g = job();
+    if store_parts(&g, folder, force) {
+        say_walk(&g);
     }
 }

@@ -1,5 +1,7 @@
 // The program: reads the files that its arguments name, asks the floors below, and prints their answers. Its exit status is always 0; the
 // script beside crates/ gives 1 where a line says `refused: `, and 2 where something stands on standard error.
+use answers::Task;
+use answers::give;
 use files::arguments::Call;
 use files::arguments::Number;
 use files::complaints::complain;
@@ -10,82 +12,13 @@ use guide::commands::Command;
 use guide::commands::Shape;
 use guide::commands::named;
 use guide::commands::shape_of;
-use wrong::complain_at;
 use wrong::complain_long;
 use wrong::complain_unknown;
 use wrong::is_wrong;
 use wrong::place;
 
+mod answers;
 mod wrong;
-
-// What to answer: the command with its N, the arguments that name its files, and the file to write.
-struct Task {
-    command: Command,
-    number: u8,
-    first: usize,
-    second: usize,
-    third: usize,
-    target: Target,
-}
-
-// A marking is read at its length alone.
-fn apply(t: Task, bytes: &[u8], marking: &[u8]) {
-    if marking.len() != 24 {
-        complain_at(t.second, b"a marking has 24 bytes");
-        return;
-    }
-    let m = bodies::read_marking(marking);
-    recording::applying::apply(t.number, bytes, m, t.target);
-}
-
-// The file to write is the folder.
-fn sample(o: Target) {
-    if o.at == 0 {
-        tour::walk::sample(b"sample", o.force);
-        return;
-    }
-    let mut folder = io::buffer();
-    let n = os::arg(o.at, &mut folder);
-    tour::walk::sample(&folder[..n], o.force);
-}
-
-// In its place stands a command.
-fn help(o: Target) {
-    if o.at == 0 {
-        guide::help::say_help();
-        return;
-    }
-    let mut word = io::buffer();
-    let n = os::arg(o.at, &mut word);
-    let c = named(&word[..n]);
-    if let Command::Unknown = c {
-        complain_unknown(&word[..n]);
-        return;
-    }
-    guide::help::say_help_of(c);
-}
-
-fn give(t: Task, a: &[u8], b: &[u8], c: &[u8]) {
-    let o = t.target;
-    let command = t.command;
-    match command {
-        Command::Check => showing::sheets::check(a),
-        Command::Show => showing::sheets::show(a),
-        Command::Write => showing::sheets::write(a, o),
-        Command::May => running::choices::may(a, b),
-        Command::Run => running::runs::run(a, b, o),
-        Command::Fold => recording::folds::fold(a, b, o),
-        Command::Join => recording::folds::join(t.number, a, b, o),
-        Command::Apply => apply(t, a, b),
-        Command::Restore => recording::applying::restore(a, b, c, o),
-        Command::Record => recording::folds::show(a),
-        Command::Lap => running::laps_told::lap(a, b, c),
-        Command::Track => running::tracks::track(a, b),
-        Command::Sample => sample(o),
-        Command::Help => help(o),
-        Command::Unknown => (),
-    }
-}
 
 fn read_and_give(t: Task) {
     let mut first = io::large_buffer();

@@ -5,22 +5,19 @@ use Rattle.running.proofs.choices.say_choices.Statement.{statement}
 use Rattle.running.proofs.choices.say_choices.Tie as tie
 
 abbrev Inv-loop : tie.InvT-loop
-Inv-loop m g s₀ s = s ≤ 64
+Inv-loop g m s₀ s = s ≤ 64
 
 abbrev μ-loop : tie.MeasureT-loop
-μ-loop m g s₀ s = 64 - s
+μ-loop g m s₀ s = 64 - s
 
 loop-holds : tie.Need-loop-holds Inv-loop μ-loop
 loop-holds c = search needs
 
-cast-i : tie.Need-cast-i Inv-loop μ-loop
-cast-i c = search needs
+cast-if1 : tie.Need-cast-if1 Inv-loop μ-loop
+cast-if1 c = search needs
 
-mul-say-choice : tie.Need-mul-say-choice Inv-loop μ-loop
-mul-say-choice c = search needs
-
-element-copy-out-say-choice : tie.Need-element-copy-out-say-choice Inv-loop μ-loop
-element-copy-out-say-choice c = search needs
+element-copy-out-if1 : tie.Need-element-copy-out-if1 Inv-loop μ-loop
+element-copy-out-if1 c = search needs
 
 say-choice-requires : tie.Need-say-choice-requires Inv-loop μ-loop
 say-choice-requires c κs = search needs
@@ -44,9 +41,8 @@ say-choices-spec =
     Inv-loop
     μ-loop
     loop-holds
-    cast-i
-    mul-say-choice
-    element-copy-out-say-choice
+    cast-if1
+    element-copy-out-if1
     say-choice-requires
     add-s
     loop-less

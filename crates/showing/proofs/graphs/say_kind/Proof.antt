@@ -1,26 +1,24 @@
 -- `graphs::say_kind` ends: the rows left fall. Assumes nothing.
 use Prim.Native.Nat.{_≤_, _-_}
+use lib.ListN.{length}
 use borrow.Author.Needs.{needs}
 use Rattle.showing.proofs.graphs.say_kind.Statement.{statement}
 use Rattle.showing.proofs.graphs.say_kind.Tie as tie
 
 abbrev Inv-loop : tie.InvT-loop
-Inv-loop kind table a₀ a = a ≤ 64
+Inv-loop kind rows a₀ a = a ≤ length rows
 
 abbrev μ-loop : tie.MeasureT-loop
-μ-loop kind table a₀ a = 64 - a
+μ-loop kind rows a₀ a = length rows - a
 
 loop-holds : tie.Need-loop-holds Inv-loop μ-loop
 loop-holds c = search needs
 
-cast-i : tie.Need-cast-i Inv-loop μ-loop
-cast-i c = search needs
-
 mul-say-row : tie.Need-mul-say-row Inv-loop μ-loop
 mul-say-row c = search needs
 
-element-copy-out-say-row : tie.Need-element-copy-out-say-row Inv-loop μ-loop
-element-copy-out-say-row c = search needs
+shared-slice-read-say-row : tie.Need-shared-slice-read-say-row Inv-loop μ-loop
+shared-slice-read-say-row c = search needs
 
 say-row-requires : tie.Need-say-row-requires Inv-loop μ-loop
 say-row-requires c κs = search needs
@@ -44,9 +42,8 @@ say-kind-spec =
     Inv-loop
     μ-loop
     loop-holds
-    cast-i
     mul-say-row
-    element-copy-out-say-row
+    shared-slice-read-say-row
     say-row-requires
     add-a
     loop-less

@@ -13,8 +13,11 @@ abbrev μ-loop : tie.MeasureT-loop
 loop-holds : tie.Need-loop-holds Inv-loop μ-loop
 loop-holds c = search needs
 
-cast-i : tie.Need-cast-i Inv-loop μ-loop
-cast-i c = search needs
+element-copy-out-if1 : tie.Need-element-copy-out-if1 Inv-loop μ-loop
+element-copy-out-if1 c = search needs
+
+add-say-person : tie.Need-add-say-person Inv-loop μ-loop
+add-say-person c = search needs
 
 mul-say-person : tie.Need-mul-say-person Inv-loop μ-loop
 mul-say-person c = search needs
@@ -44,7 +47,8 @@ say-people-spec =
     Inv-loop
     μ-loop
     loop-holds
-    cast-i
+    element-copy-out-if1
+    add-say-person
     mul-say-person
     element-copy-out-say-person
     say-person-requires

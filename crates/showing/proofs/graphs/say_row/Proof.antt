@@ -16,6 +16,9 @@ loop-holds c = search needs
 has-requires : tie.Need-has-requires Inv-loop μ-loop
 has-requires c κs = search needs
 
+cast-say-arrow : tie.Need-cast-say-arrow Inv-loop μ-loop
+cast-say-arrow c = search needs
+
 say-arrow-requires : tie.Need-say-arrow-requires Inv-loop μ-loop
 say-arrow-requires c κs = search needs
 
@@ -39,6 +42,7 @@ say-row-spec =
     μ-loop
     loop-holds
     has-requires
+    cast-say-arrow
     say-arrow-requires
     add-b
     loop-less

@@ -5,16 +5,22 @@ use Rattle.showing.proofs.graphs.say_steps.Statement.{statement}
 use Rattle.showing.proofs.graphs.say_steps.Tie as tie
 
 abbrev Inv-loop : tie.InvT-loop
-Inv-loop m g s₀ s = s ≤ 64
+Inv-loop g m s₀ s = s ≤ 64
 
 abbrev μ-loop : tie.MeasureT-loop
-μ-loop m g s₀ s = 64 - s
+μ-loop g m s₀ s = 64 - s
 
 loop-holds : tie.Need-loop-holds Inv-loop μ-loop
 loop-holds c = search needs
 
-cast-i : tie.Need-cast-i Inv-loop μ-loop
-cast-i c = search needs
+element-copy-out-if1 : tie.Need-element-copy-out-if1 Inv-loop μ-loop
+element-copy-out-if1 c = search needs
+
+cast-say-step : tie.Need-cast-say-step Inv-loop μ-loop
+cast-say-step c = search needs
+
+add-say-step : tie.Need-add-say-step Inv-loop μ-loop
+add-say-step c = search needs
 
 mul-say-step : tie.Need-mul-say-step Inv-loop μ-loop
 mul-say-step c = search needs
@@ -44,7 +50,9 @@ say-steps-spec =
     Inv-loop
     μ-loop
     loop-holds
-    cast-i
+    element-copy-out-if1
+    cast-say-step
+    add-say-step
     mul-say-step
     element-copy-out-say-step
     say-step-requires

@@ -1,14 +1,14 @@
--- `graphs::arrows_in`: no row adds more than 64. Assumes nothing.
+-- `graphs::say_arrow_count`: no row adds more than 64, and the rows left fall. Assumes nothing.
 use Prim.Native.Nat.{_≤_, _-_, _*_}
 use borrow.Author.Needs.{needs}
-use Rattle.showing.proofs.graphs.arrows_in.Statement.{statement}
-use Rattle.showing.proofs.graphs.arrows_in.Tie as tie
+use Rattle.showing.proofs.graphs.say_arrow_count.Statement.{statement}
+use Rattle.showing.proofs.graphs.say_arrow_count.Tie as tie
 
 abbrev Inv-loop : tie.InvT-loop
-Inv-loop table total₀ i₀ total i = (i ≤ 64) × (total ≤ 64 * i)
+Inv-loop g total₀ i₀ t4 total i = (i ≤ 259) × (total ≤ 64 * i)
 
 abbrev μ-loop : tie.MeasureT-loop
-μ-loop table total₀ i₀ total i = 64 - i
+μ-loop g total₀ i₀ t4 total i = 259 - i
 
 loop-holds : tie.Need-loop-holds Inv-loop μ-loop
 loop-holds c = search needs
@@ -34,11 +34,17 @@ loop-less c = search needs
 loop-again : tie.Need-loop-again Inv-loop μ-loop
 loop-again c = search needs
 
+slice-aggregate-say-count : tie.Need-slice-aggregate-say-count Inv-loop μ-loop
+slice-aggregate-say-count c = search needs
+
+say-count-requires : tie.Need-say-count-requires Inv-loop μ-loop
+say-count-requires c κs = search needs
+
 returns : tie.Need-returns Inv-loop μ-loop
 returns c = search needs
 
-pub arrows-in-spec : {M : Type 1} → statement M
-arrows-in-spec =
+pub say-arrow-count-spec : {M : Type 1} → statement M
+say-arrow-count-spec =
     tie.close
     (tie.spec
     Inv-loop
@@ -51,4 +57,6 @@ arrows-in-spec =
     add-i
     loop-less
     loop-again
+    slice-aggregate-say-count
+    say-count-requires
     returns)
