@@ -1,6 +1,6 @@
 -- The paper's Definition 7, item by item as it is printed, with `ln` read as In. The events are the steps, E = {e₁, .., eₙ}, in the
 -- order of their numbers. Nothing of document 01's tracker (Tracker.antt) is used here; Same.antt proves that the two are the same.
-use Prim.Native.Nat.{ℕ, _+_, _≤_}
+use Prim.Native.Nat.{ℕ, _≤_}
 use mathlib.Core.Path.{_≡_}
 use mathlib.Core.Bool.{Bool, false, _&&_, _||_, cond}
 use mathlib.Core.Option.{Option, none, some}
@@ -12,6 +12,7 @@ use Rattle.moves.specs.declared.Entry.{Entry}
 use Rattle.moves.specs.declared.Move.{Move}
 use Rattle.rules.specs.Answers.{theMove}
 use Rattle.moves.specs.Inside.{Inside}
+use Rattle.moves.specs.Move.{rankOf}
 use Rattle.tracker.specs.declared.Track.{Track}
 
 -- ---- the paper's signs
@@ -43,10 +44,6 @@ In M = M .included
 abbrev pub those : ℕ → (ℕ → Bool) → ℕ
 those n p = gather n (λ e. cond (p e) (single e) 0)
 
--- "rank(eᵢ) = i": e₁ is step 0
-abbrev pub rank : ℕ → ℕ
-rank e = e + 1
-
 -- "min(E′) for the event in E′ with the minimal rank": there is none where E′ is empty
 abbrev pub min : ℕ → ℕ → Option ℕ
 min n x = cond (empty x) none (some (lowest n x))
@@ -59,7 +56,7 @@ some e ∈ x = has x e
 -- rank(min(E′)), asked for only where min(E′) is in some set
 unfoldable pub rankOfMin : Option ℕ → ℕ
 rankOfMin none = 0
-rankOfMin (some e) = rank e
+rankOfMin (some e) = rankOf e
 
 -- ---- the states
 
@@ -88,7 +85,7 @@ pub record Tau (from to : Track) : Type 0 where
 module _ (n : ℕ) (M′ M″ : Marking) (i e : ℕ) where
   -- for Mᵣ = {e ∈ In′ ∩ Re′ | rank(e) > i}
   abbrev pub Mᵣ : ℕ
-  Mᵣ = those n (λ e. has (In M′ ∩ Re M′) e && ltb i (rank e))
+  Mᵣ = those n (λ e. has (In M′ ∩ Re M′) e && ltb i (rankOf e))
 
   -- (In′ ∩ Re′ \ (In″ ∩ Re″)) ∪ {e}
   abbrev pub gone : ℕ

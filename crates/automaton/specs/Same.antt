@@ -17,24 +17,24 @@ use Rattle.moves.specs.declared.Marking.{Marking}
 use Rattle.moves.specs.declared.Entry.{Entry}
 use Rattle.moves.specs.declared.Verdict.{Verdict}
 use Rattle.moves.specs.First.{first}
-use Rattle.moves.specs.Move.{isFinished}
+use Rattle.moves.specs.Move.{isFinished, rankOf}
 use Rattle.rules.specs.Laws.{clear-counts}
 use Rattle.moves.specs.Inside.{Inside, inside-fits}
 use Rattle.rules.specs.Entries.{moved-after}
 use Rattle.tracker.specs.declared.Track.{Track}
 use Rattle.tracker.specs.declared.Tracked.{Tracked}
 use Rattle.tracker.specs.Tracker.{isRank, begin, rest, pending, above, pool, meets, served, trackAfter, startLines, theStart, theIdle, theStep}
-use Rattle.automaton.specs.Paper.{State, Initial, Tau, Transition, those, rank, min, _∈_, rankOfMin, j′, i′}
+use Rattle.automaton.specs.Paper.{State, Initial, Tau, Transition, those, min, _∈_, rankOfMin, j′, i′}
 use Rattle.tracker.specs.Laws.{above-members, sound-inside, start-clear, idle-clear, idle-at, Stepped, step-at, at-step, rank-is}
 use Rattle.automaton.specs.States.{start-is}
 
 -- ---- H is Mᵣ
 
 -- a set of steps below n has no other member
-pub those-above : (n i p : ℕ) → p < 2 ^ n → those n (λ e. has p e && ltb i (rank e)) ≡ above i p
-those-above n i p h = ext _ _ (λ s. has-those n (λ e. has p e && ltb i (rank e)) s ∙ inside s (decLt s n) ∙ sym (above-members i p s))
+pub those-above : (n i p : ℕ) → p < 2 ^ n → those n (λ e. has p e && ltb i (rankOf e)) ≡ above i p
+those-above n i p h = ext _ _ (λ s. has-those n (λ e. has p e && ltb i (rankOf e)) s ∙ inside s (decLt s n) ∙ sym (above-members i p s))
   where
-    inside : (s : ℕ) → Dec (s < n) → (ltb s n && (has p s && ltb i (rank s))) ≡ (has p s && ltb i (rank s))
+    inside : (s : ℕ) → Dec (s < n) → (ltb s n && (has p s && ltb i (rankOf s))) ≡ (has p s && ltb i (rankOf s))
     inside s (yes l) = simp (lt-ltb s n l)
     inside s (no l) = simp (le-ltb s n (omega arith), has-above n p s h (omega arith))
 
@@ -117,7 +117,7 @@ module _ (n i e p q : ℕ) (most : n ≤ 64) (small : p < 2 ^ n) where
   agree = go (empty (above i p)) refl (empty p) refl
     where
       part : (s : ℕ) → has (above i p) s ≡ true → has p s ≡ true
-      part s k = and-left (has p s) (ltb i (rank s)) (sym (above-members i p s) ∙ k)
+      part s k = and-left (has p s) (ltb i (rankOf s)) (sym (above-members i p s) ∙ k)
 
       less : above i p < 2 ^ n
       less = minus-lt n p (full i) small
@@ -134,7 +134,7 @@ module _ (n i e p q : ℕ) (most : n ≤ 64) (small : p < 2 ^ n) where
 
 -- {e ∈ p | rank(e) > i}
 abbrev higher : ℕ → ℕ → ℕ → ℕ
-higher n i p = those n (λ e. has p e && ltb i (rank e))
+higher n i p = those n (λ e. has p e && ltb i (rankOf e))
 
 module _ (n : ℕ) (t : Track) (next : Marking) (e : ℕ) (most : n ≤ 64) (small : pending (t .marking) < 2 ^ n) where
   abbrev i : ℕ

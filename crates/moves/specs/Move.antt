@@ -1,5 +1,5 @@
 -- Taking a step on its row (Definitions 4 and 5): when an entry is allowed, and the marking after it. All tests read the marking before.
-use Prim.Native.Nat.{ℕ}
+use Prim.Native.Nat.{ℕ, _+_}
 use mathlib.Core.List.{List, [], _∷_}
 use mathlib.Core.Bool.{Bool, not, _&&_, cond}
 use lib.Dec.{leb}
@@ -48,6 +48,10 @@ isFinished m = empty (meet (m .due) (m .included))
 -- a marking of a graph with n steps names only its steps
 abbrev pub markingFits : ℕ → Marking → Bool
 markingFits n m = within n (m .done) && within n (m .due) && within n (m .included)
+
+-- the rank of a step: steps count from 0, ranks from 1. No other place turns the one into the other
+abbrev pub rankOf : ℕ → ℕ
+rankOf s = s + 1
 
 -- k is one of 1, 2, .., most
 abbrev pub within1to : ℕ → ℕ → Bool

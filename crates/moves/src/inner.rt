@@ -2,7 +2,7 @@
 ghost use mathlib.Core.Path.{_≡_};
 ghost use Prim.Native.Nat.{_+_, _<_, _≤_};
 ghost use Rattle.moves.specs.First.{first};
-ghost use Rattle.moves.specs.Move.{moveOf, rowLines, after, afterOne, waitsFor, markingFits};
+ghost use Rattle.moves.specs.Move.{moveOf, rowLines, after, afterOne, waitsFor, markingFits, rankOf};
 use crate::Entry;
 use crate::Marking;
 use crate::Move;
@@ -82,7 +82,7 @@ pub fn fits(n: u64, m: Marking) -> bool
 // The rank of a step.
 pub fn rank_of(s: Step) -> Rank
     requires { ⌜ s .0 < 64 ⌝ }
-    ensures { λ r. ⌜ r .0 ≡ s .0 + 1 ⌝ }
+    ensures { λ r. ⌜ r .0 ≡ rankOf (s .0) ⌝ }
 {
     Rank(s.0 + 1)
 }

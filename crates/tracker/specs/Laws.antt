@@ -20,13 +20,13 @@ use Rattle.moves.specs.declared.Refusal.the-variants.{Outside, NoRank}
 use Rattle.moves.specs.declared.Verdict.{Verdict}
 use Rattle.moves.specs.declared.Move.{Move}
 use Rattle.moves.specs.First.{Line, first, numberOf}
-use Rattle.moves.specs.Move.{markingFits, moveOf, after}
+use Rattle.moves.specs.Move.{rankOf, markingFits, moveOf, after}
 use Rattle.rules.specs.Answers.{markingLines, entryLines, moveLines, theMove, entryMove, rowOf}
 use Rattle.moves.specs.Given.{first-clear, first-refused, first-below, numbersBelow, ascends, clear-head, clear-tail, first-above, clear-front, clear-back}
 use Rattle.rules.specs.Entries.{clear-moved, moved-clear, moved-after}
 use Rattle.tracker.specs.declared.Track.{Track}
 use Rattle.tracker.specs.declared.Tracked.{Tracked}
-use Rattle.tracker.specs.Tracker.{isRank, rankOf, pending, above, pool, meets, served, begin, rest, trackAfter, startLines, rankLines, idleLines, stepLines, trackedOf, theStart, theIdle, theStep}
+use Rattle.tracker.specs.Tracker.{isRank, pending, above, pool, meets, served, begin, rest, trackAfter, startLines, rankLines, idleLines, stepLines, trackedOf, theStart, theIdle, theStep}
 
 -- ---- what is against graph and marking
 
@@ -136,7 +136,7 @@ step-entered g t e q f =
 -- ---- H and x
 
 -- H: s is in it exactly if it is in P and its rank is above i
-pub above-members : (i p s : ℕ) → has (above i p) s ≡ (has p s && ltb i (rankOf s .0))
+pub above-members : (i p s : ℕ) → has (above i p) s ≡ (has p s && ltb i (rankOf s))
 above-members i p s = has-minus p (full i) s ∙ ap (λ (b : Bool). has p s && not b) (has-full i s) ∙ ap (λ (b : Bool). has p s && b) (turn (decLt s i))
   where
     turn : Dec (s < i) → not (ltb s i) ≡ ltb i (s + 1)
@@ -150,7 +150,7 @@ pool-empty i p = go (empty (above i p)) refl (empty p) refl
     go : (h : Bool) → empty (above i p) ≡ h → (k : Bool) → empty p ≡ k → empty (cond (empty (above i p)) p (above i p)) ≡ empty p
     go true eh k ek = ap (λ (b : Bool). empty (cond b p (above i p))) eh
     go false eh false ek = ap (λ (b : Bool). empty (cond b p (above i p))) eh ∙ eh ∙ sym ek
-    go false eh true ek = absurd (true≢false (sym (members-empty (above i p) (λ s. above-members i p s ∙ ap (λ (b : Bool). b && ltb i (rankOf s .0)) (empty-members p ek s))) ∙ eh))
+    go false eh true ek = absurd (true≢false (sym (members-empty (above i p) (λ s. above-members i p s ∙ ap (λ (b : Bool). b && ltb i (rankOf s)) (empty-members p ek s))) ∙ eh))
 
 -- ---- the rule, by its cases
 
@@ -163,13 +163,13 @@ served-of i p p″ e ahead x pa px = simp (px, pa)
 
 -- there is an x, and it is met
 pub after-met : (t : Track) (next : Marking) (e ahead x : ℕ) (i : Rank) → ahead ≡ pool (t .rank .0) (pending (t .marking)) → (ahead ≡ 0 → ⊥) → x ≡ lowest 64 ahead
-    → meets x e (pending next) ≡ true → i .0 ≡ x + 1 → _≡_ {A = Track} (record { marking = next; rank = i; flag = true }) (trackAfter t next e)
+    → meets x e (pending next) ≡ true → i .0 ≡ rankOf x → _≡_ {A = Track} (record { marking = next; rank = i; flag = true }) (trackAfter t next e)
 unfolding trackAfter
 after-met t next e ahead x i pa some px met pi =
     let here : served (t .rank .0) (pending (t .marking)) (pending next) e ≡ true =
     sym (served-of (t .rank .0) (pending (t .marking)) (pending next) e ahead x pa px) ∙ and-intro (ap not (ne-eqb ahead 0 some)) met in
     let same : x ≡ lowest 64 (pool (t .rank .0) (pending (t .marking))) = px ∙ ap (lowest 64) pa in
-    let rank : i ≡ rankOf (lowest 64 (pool (t .rank .0) (pending (t .marking)))) = λ k. record { 0 = (pi ∙ ap (λ (y : ℕ). y + 1) same) k } in
+    let rank : i ≡ record { 0 = rankOf (lowest 64 (pool (t .rank .0) (pending (t .marking)))) } = λ k. record { 0 = (pi ∙ ap (λ (y : ℕ). y + 1) same) k } in
     simp (here, rank)
 
 -- there is an x, and it is not met
@@ -187,7 +187,7 @@ pub rank-is : (t : Track) (next : Marking) (e : ℕ)
 unfolding trackAfter
 rank-is t next e = either (served (t .rank .0) (pending (t .marking)) (pending next) e) (lowest 64 (pool (t .rank .0) (pending (t .marking))))
   where
-    either : (b : Bool) (x : ℕ) → cond b (rankOf x) (t .rank) .0 ≡ cond b (x + 1) (t .rank .0)
+    either : (b : Bool) (x : ℕ) → cond b (record { 0 = rankOf x }) (t .rank) .0 ≡ cond b (x + 1) (t .rank .0)
     either true x = refl
     either false x = refl
 

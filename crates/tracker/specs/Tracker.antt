@@ -1,5 +1,5 @@
 -- The tracker (Definition 7), as document 01 says it. A state is a marking, a rank i in 1..n, and a flag.
-use Prim.Native.Nat.{ℕ, _+_}
+use Prim.Native.Nat.{ℕ}
 use mathlib.Core.List.{List, [], _∷_, _++_}
 use mathlib.Core.Bool.{Bool, true, not, _&&_, _||_, cond}
 use lib.Dec.{eqb, leb}
@@ -11,14 +11,10 @@ use Rattle.moves.specs.declared.Entry.{Entry}
 use Rattle.moves.specs.declared.Verdict.{Verdict}
 use Rattle.moves.specs.declared.Refusal.the-variants.{NoRank}
 use Rattle.moves.specs.First.{Line, first, numberOf, stepOf}
-use Rattle.moves.specs.Move.{within1to, after, isFinished}
+use Rattle.moves.specs.Move.{within1to, rankOf, after, isFinished}
 use Rattle.rules.specs.Answers.{rowOf, markingLines, entryLines}
 use Rattle.tracker.specs.declared.Track.{Track}
 use Rattle.tracker.specs.declared.Tracked.{Tracked}
-
--- "Step s has rank s + 1."
-abbrev pub rankOf : ℕ → Rank
-rankOf s = record { 0 = s + 1 }
 
 -- "A rank i in 1..n."
 abbrev pub isRank : ℕ → ℕ → Bool
@@ -65,7 +61,7 @@ trackAfter t next e =
     let x = lowest 64 (pool i P) in
     record {
       marking = next;
-      rank = cond (served i P P″ e) (rankOf x) (t .rank);
+      rank = cond (served i P P″ e) (record { 0 = rankOf x }) (t .rank);
       flag = cond (served i P P″ e) true (empty P″);
     }
 
