@@ -212,8 +212,8 @@ pub extern "C" fn ulz_read<'a, 'b, 'c>(sheet: &'a [u8], g: &'b mut Job, m: &'c m
 {
     let a = sheet::read(sheet, g);
     let v = a.verdict;
-    let first = a.first;
-    lent::first(v, first, m)
+    let start = a.first;
+    lent::first(v, start, m)
 }
 
 // Refusals 2, 4, 6, 18.

@@ -1,3 +1,4 @@
+-- `ulz_apply`: the application of what the bytes spell. Assumes nothing.
 use borrow.Author.Needs.{needs}
 use Rattle.door.proofs.ulz_apply.Statement.{statement}
 use Rattle.door.proofs.ulz_apply.Tie as tie
@@ -12,7 +13,7 @@ applied-requires : tie.Need-applied-requires
 applied-requires c κs = search needs
 
 returns : tie.Need-returns
-returns c = ?
+returns c = rw (c .before .apply .ensures, c .before .before .record-in .ensures) at (c .applied .ensures)
 
 pub ulz-apply-spec : {M : Type 1} → statement M
 ulz-apply-spec =

@@ -1,3 +1,4 @@
+-- `ulz_restore`: the restoring from what the bytes spell. Assumes nothing.
 use borrow.Author.Needs.{needs}
 use Rattle.door.proofs.ulz_restore.Statement.{statement}
 use Rattle.door.proofs.ulz_restore.Tie as tie
@@ -12,7 +13,7 @@ ran-requires : tie.Need-ran-requires
 ran-requires c κs = search needs
 
 returns : tie.Need-returns
-returns c = ?
+returns c = rw (c .before .restore .ensures, c .before .before .record-in .ensures) at (c .ran .ensures)
 
 pub ulz-restore-spec : {M : Type 1} → statement M
 ulz-restore-spec = tie.close (tie.spec record-in-requires restore-requires ran-requires returns)
