@@ -1,138 +1,263 @@
-// The border to C and Rust. Every call answers one word: the number in its lowest byte, 0 where the call is answered, and above it
-// what goes with the number. Lent memory is written only where the number is 0. include/ulzhartep.h declares the same calls.
+// The border to C, which include/ulzhartep.h declares. A graph is lent as one block; markings, entries and states go by value; bytes are lent
+// with their length; an answer is a struct of words. Lent memory is written only where the number is 0.
 ghost use mathlib.Core.Path.{_≡_};
-ghost use Rattle.rules.specs.Graph.{lentGraph, graphVerdict};
-ghost use Rattle.rules.specs.Answers.{theMove, theEnding};
-ghost use Rattle.words.specs.Words.{verdictWord, moveWord, endingWord, markingIn, markingOut, entryOf};
-use rules::Ending;
+ghost use lib.ListN.{length};
+ghost use Rattle.moves.specs.First.{number};
+ghost use Rattle.moves.specs.Move.{numberOfMove, stepOfMove, markingOfMove};
+ghost use Rattle.rules.specs.Graph.{graphOf, graphVerdict};
+ghost use Rattle.rules.specs.Answers.{theMove, theEnding, numberOfEnding};
+ghost use Rattle.kept.specs.Keep.{theKept};
+ghost use Rattle.journal.specs.Run.{theRun, numberOfRun, stepOfRun, indexOfRun, markingOfRun};
+ghost use Rattle.journal.specs.Walk.{strideAt, numberOfWalked, entryOfWalked};
+ghost use Rattle.records.specs.Answers.{theJoin, theApplication, numberOfRecorded, numberOfApplied, markingOfApplied};
+ghost use Rattle.spelling.specs.Bytes.{theReading, roomOf};
+ghost use Rattle.folding.specs.Answers.{theFold, theRestoring};
+ghost use Rattle.sheet.specs.Sheet.{readVerdict, ifClear, blockRead, firstOf, theWritten, roomAfter, numberOfWritten, lengthOfWritten};
+ghost use Rattle.tracker.specs.Tracker.{theStart, theIdle, theStep, numberOfTracked, stepOfTracked};
+ghost use Rattle.answers.specs.Values.{finishedOfEnding, endedOfWalked, lengthOfSpelling};
+ghost use Rattle.answers.specs.Lent.{markingIn, markingWords, keptOut, recordIn, recordOf, spellVerdict, bytesOut, wordsOut};
+ghost use Rattle.answers.specs.Tracks.{trackIn, noTrack, trackOfTracked};
+ghost use Rattle.answers.specs.Endless.{LapTold};
+use answers::Ending;
+use answers::Kept;
+use answers::Lapped;
+use answers::Moved;
+use answers::Ran;
+use answers::Track;
+use answers::Tracked;
+use answers::Walked;
+use answers::Written;
+use answers::lent;
+use answers::told;
+use answers::tracks;
 use moves::Entry;
 use moves::Marking;
-use moves::Move;
-use moves::Refusal;
-use moves::Step;
-use moves::Verdict;
-
-pub mod endless;
-pub mod folded;
-pub mod journals;
-pub mod sheets;
-pub mod tracks;
+use rules::Job;
 
 // Refusals 2, 4, 6.
 #[no_mangle]
-pub extern "C" fn ulz_check<'a>(
-    steps: u8,
-    people: u8,
-    roles: u8,
-    allows: &'a [u16; 64],
-    holds: &'a [u16; 16],
-    conditions: &'a [u64; 64],
-    responses: &'a [u64; 64],
-    includes: &'a [u64; 64],
-    excludes: &'a [u64; 64],
-) -> u64
-    ensures { λ r. ⌜ r ≡ verdictWord (graphVerdict (lentGraph steps people roles (now (allows .entry)) (now (holds .entry)) (now (conditions .entry)) (now (responses .entry)) (now (includes .entry)) (now (excludes .entry)))) ⌝ }
+pub extern "C" fn ulz_check(g: &Job) -> u64
+    ensures { λ r. ⌜ r ≡ number (graphVerdict (graphOf (now (g .entry)))) ⌝ }
 {
-    let v = rules::lent::check(
-        excludes,
-        includes,
-        responses,
-        conditions,
-        holds,
-        allows,
-        steps,
-        people,
-        roles,
-    );
-    words::verdict(v)
+    let v = rules::check(g);
+    told::verdict(v)
 }
 
-// Refusals 2, 4, 6, 8, 11 to 15 with the waiting step in the second byte. The marking becomes the marking after.
+// Refusals 2, 4, 6, 8, 11 to 15.
 #[no_mangle]
-pub extern "C" fn ulz_take<'a, 'b>(
-    steps: u8,
-    people: u8,
-    roles: u8,
-    allows: &'a [u16; 64],
-    holds: &'a [u16; 16],
-    conditions: &'a [u64; 64],
-    responses: &'a [u64; 64],
-    includes: &'a [u64; 64],
-    excludes: &'a [u64; 64],
-    marking: &'b mut [u64; 3],
-    person: u8,
-    step: u8,
-    role: u8,
-) -> u64
-    ensures { λ r. ⌜ r ≡ moveWord (theMove (lentGraph steps people roles (now (allows .entry)) (now (holds .entry)) (now (conditions .entry)) (now (responses .entry)) (now (includes .entry)) (now (excludes .entry))) (markingIn (now (marking .entry))) (entryOf person step role)) ⌝ }
-    ensures { λ r. ⌜ now (marking .exit) ≡ markingOut (theMove (lentGraph steps people roles (now (allows .entry)) (now (holds .entry)) (now (conditions .entry)) (now (responses .entry)) (now (includes .entry)) (now (excludes .entry))) (markingIn (now (marking .entry))) (entryOf person step role)) (now (marking .entry)) ⌝ }
+pub extern "C" fn ulz_take(g: &Job, m: Marking, e: Entry) -> Moved
+    ensures { λ r. ⌜ r .number ≡ numberOfMove (theMove (graphOf (now (g .entry))) m e) ⌝ }
+    ensures { λ r. ⌜ r .waiting ≡ stepOfMove (theMove (graphOf (now (g .entry))) m e) ⌝ }
+    ensures { λ r. ⌜ r .marking ≡ markingOfMove (theMove (graphOf (now (g .entry))) m e) ⌝ }
 {
-    let v = rules::lent::check(
-        excludes,
-        includes,
-        responses,
-        conditions,
-        holds,
-        allows,
-        steps,
-        people,
-        roles,
-    );
-    if let Verdict::Refused(r) = v {
-        return words::refusal(r) as u64;
-    }
-    let m = words::marking(marking);
-    let e = Entry {
-        person,
-        step: Step(step),
-        role,
-    };
-    let o = rules::lent::take_on(
-        steps,
-        people,
-        roles,
-        allows,
-        holds,
-        conditions,
-        responses,
-        includes,
-        excludes,
-        m,
-        e,
-    );
-    words::moved(o, marking)
+    let o = rules::take(g, m, e);
+    told::moved(o)
 }
 
-// Refusals 2, 4, 6, 8. The second byte is 1 where the job is finished.
+// Refusals 2, 4, 6, 8.
 #[no_mangle]
-pub extern "C" fn ulz_finished<'a, 'b>(
-    steps: u8,
-    people: u8,
-    roles: u8,
-    allows: &'a [u16; 64],
-    holds: &'a [u16; 16],
-    conditions: &'a [u64; 64],
-    responses: &'a [u64; 64],
-    includes: &'a [u64; 64],
-    excludes: &'a [u64; 64],
-    marking: &'b [u64; 3],
-) -> u64
-    ensures { λ r. ⌜ r ≡ endingWord (theEnding (lentGraph steps people roles (now (allows .entry)) (now (holds .entry)) (now (conditions .entry)) (now (responses .entry)) (now (includes .entry)) (now (excludes .entry))) (markingIn (now (marking .entry)))) ⌝ }
+pub extern "C" fn ulz_finished(g: &Job, m: Marking) -> Ending
+    ensures { λ r. ⌜ r .number ≡ numberOfEnding (theEnding (graphOf (now (g .entry))) m) ⌝ }
+    ensures { λ r. ⌜ r .finished ≡ finishedOfEnding (theEnding (graphOf (now (g .entry))) m) ⌝ }
 {
-    let v = rules::lent::check(
-        excludes,
-        includes,
-        responses,
-        conditions,
-        holds,
-        allows,
-        steps,
-        people,
-        roles,
-    );
-    if let Verdict::Refused(r) = v {
-        return words::refusal(r) as u64;
-    }
-    let o = rules::lent::finished_on(steps, words::marking(marking));
-    words::ending(o)
+    let o = rules::finished(g, m);
+    told::ending(o)
+}
+
+// As `ulz_take`, and the marking is changed where it lies.
+#[no_mangle]
+pub extern "C" fn ulz_keep<'a, 'b>(g: &'a Job, m: &'b mut [u64; 3], e: Entry) -> Kept
+    ensures { λ r. ⌜ r .number ≡ numberOfMove (theKept (graphOf (now (g .entry))) (markingIn (now (m .entry))) e .answer) ⌝ }
+    ensures { λ r. ⌜ r .waiting ≡ stepOfMove (theKept (graphOf (now (g .entry))) (markingIn (now (m .entry))) e .answer) ⌝ }
+    ensures { λ r. ⌜ now (m .exit) ≡ keptOut (theKept (graphOf (now (g .entry))) (markingIn (now (m .entry))) e) (now (m .entry)) ⌝ }
+{
+    let before = lent::marking(m);
+    let k = kept::kept_after(before, g, e);
+    lent::keep(k, m)
+}
+
+// ---- journals
+
+// Refusals 2, 4, 6, 7, 8, 11 to 15.
+#[no_mangle]
+pub extern "C" fn ulz_run<'a, 'b>(g: &'a Job, m: Marking, journal: &'b [u8]) -> Ran
+    ensures { λ r. ⌜ r .number ≡ numberOfRun (theRun (graphOf (now (g .entry))) m (now (journal .entry))) ⌝ }
+    ensures { λ r. ⌜ r .waiting ≡ stepOfRun (theRun (graphOf (now (g .entry))) m (now (journal .entry))) ⌝ }
+    ensures { λ r. ⌜ r .entries ≡ indexOfRun (theRun (graphOf (now (g .entry))) m (now (journal .entry))) ⌝ }
+    ensures { λ r. ⌜ r .marking ≡ markingOfRun (theRun (graphOf (now (g .entry))) m (now (journal .entry))) ⌝ }
+{
+    let o = journal::run(g, m, journal);
+    told::ran(o)
+}
+
+// What a walk that stands at `place` says. Refusal 7.
+#[no_mangle]
+pub extern "C" fn ulz_walk(journal: &[u8], place: usize) -> Walked
+    ensures { λ r. ⌜ r .number ≡ numberOfWalked (strideAt (now (journal .entry)) place .said) ⌝ }
+    ensures { λ r. ⌜ r .ended ≡ endedOfWalked (strideAt (now (journal .entry)) place .said) ⌝ }
+    ensures { λ r. ⌜ r .entry ≡ entryOfWalked (strideAt (now (journal .entry)) place .said) ⌝ }
+{
+    let s = journal::walk_at(journal, place);
+    let said = s.said;
+    told::walked(said)
+}
+
+// The stem, then the lap without end. Refusals 2, 4, 6, 7, 8, 17, 11 to 15.
+#[no_mangle]
+pub extern "C" fn ulz_lap<'a, 'b, 'c>(
+    g: &'a Job,
+    m: Marking,
+    stem: &'b [u8],
+    lap: &'c [u8],
+) -> Lapped
+    ensures { λ r. ⌜ LapTold (graphOf (now (g .entry))) m (now (stem .entry)) (now (lap .entry)) r ⌝ }
+{
+    let o = laps::lap(g, m, stem, lap);
+    answers::endless::lapped(o)
+}
+
+// ---- records
+
+// Refusals 2, 4, 6, 7.
+#[no_mangle]
+pub extern "C" fn ulz_fold<'a, 'b, 'c>(g: &'a Job, journal: &'b [u8], out: &'c mut [u8; 65]) -> u64
+    ensures { λ r. ⌜ r ≡ numberOfRecorded (theFold (graphOf (now (g .entry))) (now (journal .entry))) ⌝ }
+    ensures { λ r. ⌜ now (out .exit) ≡ bytesOut (theFold (graphOf (now (g .entry))) (now (journal .entry))) (now (out .entry)) ⌝ }
+{
+    let o = folding::fold(g, journal);
+    lent::spell(o, out)
+}
+
+// Refusals 2, 10.
+#[no_mangle]
+pub extern "C" fn ulz_join<'a, 'b, 'c>(
+    n: u64,
+    a: &'a [u8],
+    b: &'b [u8],
+    out: &'c mut [u8; 65],
+) -> u64
+    ensures { λ r. ⌜ r ≡ numberOfRecorded (theJoin n (recordIn (now (a .entry))) (recordIn (now (b .entry)))) ⌝ }
+    ensures { λ r. ⌜ now (out .exit) ≡ bytesOut (theJoin n (recordIn (now (a .entry))) (recordIn (now (b .entry)))) (now (out .entry)) ⌝ }
+{
+    let earlier = lent::record_in(a);
+    let later = lent::record_in(b);
+    let o = earlier.join(later, n);
+    lent::spell(o, out)
+}
+
+// Refusals 2, 8, 10, 16.
+#[no_mangle]
+pub extern "C" fn ulz_apply(n: u64, bytes: &[u8], m: Marking) -> Moved
+    ensures { λ r. ⌜ r .number ≡ numberOfApplied (theApplication n (recordIn (now (bytes .entry))) m) ⌝ }
+    ensures { λ r. ⌜ r .waiting ≡ 0 ⌝ }
+    ensures { λ r. ⌜ r .marking ≡ markingOfApplied (theApplication n (recordIn (now (bytes .entry))) m) ⌝ }
+{
+    let x = lent::record_in(bytes);
+    let o = x.apply(m, n);
+    told::applied(o)
+}
+
+// Refusals 2, 10.
+#[no_mangle]
+pub extern "C" fn ulz_record_read<'a, 'b>(n: u64, bytes: &'a [u8], words: &'b mut [u64; 9]) -> u64
+    ensures { λ r. ⌜ r ≡ numberOfRecorded (theReading n (now (bytes .entry))) ⌝ }
+    ensures { λ r. ⌜ now (words .exit) ≡ wordsOut (theReading n (now (bytes .entry))) (now (words .entry)) ⌝ }
+{
+    let o = spelling::read(n, bytes);
+    lent::spread(o, words)
+}
+
+// Refusals 2, 10, 18.
+#[no_mangle]
+pub extern "C" fn ulz_record_write<'a, 'b>(
+    n: u64,
+    words: &'a [u64; 9],
+    room: &'b mut [u8],
+) -> Written
+    ensures { λ r. ⌜ r .number ≡ number (spellVerdict n (now (words .entry)) (now (room .entry))) ⌝ }
+    ensures { λ r. ⌜ r .length ≡ lengthOfSpelling (spellVerdict n (now (words .entry)) (now (room .entry))) ⌝ }
+    ensures { λ r. ⌜ now (room .exit) ≡ roomOf (spellVerdict n (now (words .entry)) (now (room .entry))) (recordOf (now (words .entry))) (now (room .entry)) ⌝ }
+{
+    let x = lent::record_of(words);
+    let v = spelling::write(n, x, room);
+    told::spelt(v)
+}
+
+// A record, then the rest of a journal. Refusals 2, 4, 6, 7, 8, 10, 16, then 11 to 15.
+#[no_mangle]
+pub extern "C" fn ulz_restore<'a, 'b, 'c>(
+    g: &'a Job,
+    bytes: &'b [u8],
+    journal: &'c [u8],
+    m: Marking,
+) -> Ran
+    ensures { λ r. ⌜ r .number ≡ numberOfRun (theRestoring (graphOf (now (g .entry))) (recordIn (now (bytes .entry))) (now (journal .entry)) m) ⌝ }
+    ensures { λ r. ⌜ r .waiting ≡ stepOfRun (theRestoring (graphOf (now (g .entry))) (recordIn (now (bytes .entry))) (now (journal .entry)) m) ⌝ }
+    ensures { λ r. ⌜ r .entries ≡ indexOfRun (theRestoring (graphOf (now (g .entry))) (recordIn (now (bytes .entry))) (now (journal .entry)) m) ⌝ }
+    ensures { λ r. ⌜ r .marking ≡ markingOfRun (theRestoring (graphOf (now (g .entry))) (recordIn (now (bytes .entry))) (now (journal .entry)) m) ⌝ }
+{
+    let x = lent::record_in(bytes);
+    let o = folding::restore(g, x, journal, m);
+    told::ran(o)
+}
+
+// ---- sheets
+
+// Refusals 1 to 6.
+#[no_mangle]
+pub extern "C" fn ulz_read<'a, 'b, 'c>(sheet: &'a [u8], g: &'b mut Job, m: &'c mut [u64; 3]) -> u64
+    ensures { λ r. ⌜ r ≡ number (readVerdict (now (sheet .entry))) ⌝ }
+    ensures { λ r. ⌜ now (g .exit) ≡ ifClear (readVerdict (now (sheet .entry))) (blockRead (now (sheet .entry))) (now (g .entry)) ⌝ }
+    ensures { λ r. ⌜ now (m .exit) ≡ ifClear (readVerdict (now (sheet .entry))) (markingWords (firstOf (now (sheet .entry)))) (now (m .entry)) ⌝ }
+{
+    let a = sheet::read(sheet, g);
+    let v = a.verdict;
+    let start = a.first;
+    lent::first(v, start, m)
+}
+
+// Refusals 2, 4, 6, 18.
+#[no_mangle]
+pub extern "C" fn ulz_write<'a, 'b>(g: &'a Job, m: Marking, room: &'b mut [u8]) -> Written
+    ensures { λ r. ⌜ r .number ≡ numberOfWritten (theWritten (graphOf (now (g .entry))) m (length (now (room .entry)))) ⌝ }
+    ensures { λ r. ⌜ r .length ≡ lengthOfWritten (theWritten (graphOf (now (g .entry))) m (length (now (room .entry)))) ⌝ }
+    ensures { λ r. ⌜ now (room .exit) ≡ roomAfter (graphOf (now (g .entry))) m (now (room .entry)) ⌝ }
+{
+    let o = sheet::write(g, m, room);
+    told::written(o)
+}
+
+// ---- the tracker
+
+// Refusals 2, 4, 6, 8.
+#[no_mangle]
+pub extern "C" fn ulz_track_start(g: &Job, m: Marking) -> Tracked
+    ensures { λ r. ⌜ r .number ≡ numberOfTracked (theStart (graphOf (now (g .entry))) m) ⌝ }
+    ensures { λ r. ⌜ r .waiting ≡ stepOfTracked (theStart (graphOf (now (g .entry))) m) ⌝ }
+    ensures { λ r. ⌜ r .track ≡ trackOfTracked noTrack (theStart (graphOf (now (g .entry))) m) ⌝ }
+{
+    let o = tracker::start(g, m);
+    tracks::tracked(tracks::NOWHERE, o)
+}
+
+// Refusals 2, 4, 6, 8, 9.
+#[no_mangle]
+pub extern "C" fn ulz_track_idle(g: &Job, t: Track) -> Tracked
+    ensures { λ r. ⌜ r .number ≡ numberOfTracked (theIdle (graphOf (now (g .entry))) (trackIn t)) ⌝ }
+    ensures { λ r. ⌜ r .waiting ≡ stepOfTracked (theIdle (graphOf (now (g .entry))) (trackIn t)) ⌝ }
+    ensures { λ r. ⌜ r .track ≡ trackOfTracked t (theIdle (graphOf (now (g .entry))) (trackIn t)) ⌝ }
+{
+    let o = tracker::idle(g, tracks::track(t));
+    tracks::tracked(t, o)
+}
+
+// Refusals 2, 4, 6, 8, 9, 11 to 15.
+#[no_mangle]
+pub extern "C" fn ulz_track_step(g: &Job, t: Track, e: Entry) -> Tracked
+    ensures { λ r. ⌜ r .number ≡ numberOfTracked (theStep (graphOf (now (g .entry))) (trackIn t) e) ⌝ }
+    ensures { λ r. ⌜ r .waiting ≡ stepOfTracked (theStep (graphOf (now (g .entry))) (trackIn t) e) ⌝ }
+    ensures { λ r. ⌜ r .track ≡ trackOfTracked t (theStep (graphOf (now (g .entry))) (trackIn t) e) ⌝ }
+{
+    let o = tracker::advance(g, tracks::track(t), e);
+    tracks::tracked(t, o)
 }

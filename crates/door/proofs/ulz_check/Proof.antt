@@ -1,7 +1,5 @@
--- `ulz_check`: the verdict as a word. Assumes nothing.
-use mathlib.Core.Path.{ap, _∙_}
+-- `ulz_check`: the number of the verdict on the block. Assumes nothing.
 use borrow.Author.Needs.{needs}
-use Rattle.words.specs.Words.{verdictWord}
 use Rattle.door.proofs.ulz_check.Statement.{statement}
 use Rattle.door.proofs.ulz_check.Tie as tie
 
@@ -12,7 +10,7 @@ verdict-requires : tie.Need-verdict-requires
 verdict-requires c κs = search needs
 
 returns : tie.Need-returns
-returns c = c .verdict .ensures ∙ ap verdictWord (c .before .check .ensures)
+returns c = rw (c .before .check .ensures) at (c .verdict .ensures)
 
 pub ulz-check-spec : {M : Type 1} → statement M
 ulz-check-spec = tie.close (tie.spec check-requires verdict-requires returns)

@@ -1,0 +1,17 @@
+-- `rank`: a byte is itself, and anything beyond is no rank. Assumes nothing.
+use borrow.Author.Tests.{lt-ltb, le-ltb}
+use borrow.Author.Needs.{needs}
+use Rattle.answers.proofs.tracks.rank.Statement.{statement}
+use Rattle.answers.proofs.tracks.rank.Tie as tie
+
+cast-t4 : tie.Need-cast-t4
+cast-t4 c = search needs
+
+returns : tie.Need-returns
+returns c = simp (lt-ltb _ _ (c .if1 .taken))
+
+returns-2 : tie.Need-returns-2
+returns-2 c = simp (le-ltb _ _ (c .if1 .left))
+
+pub rank-spec : {M : Type 1} → statement M
+rank-spec = tie.close (tie.spec cast-t4 returns returns-2)

@@ -1,0 +1,5 @@
+pub mod Values
+pub mod Tracks
+pub mod Endless
+pub mod Lent
+pub mod Laws

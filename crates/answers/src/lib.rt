@@ -1,0 +1,82 @@
+// The answers to the calls of the border, as structs of words. A number is 0 where a call is answered. With 15 `waiting` is the lowest
+// waiting step, and with every other number 0. What a number leaves without a value is 0.
+use moves::Entry;
+use moves::Marking;
+
+pub mod endless;
+pub mod lent;
+pub mod told;
+pub mod tracks;
+
+// `finished` is 1 where no step is both due and included.
+#[repr(C)]
+pub struct Ending {
+    pub number: u64,
+    pub finished: u64,
+}
+
+// The marking after, or from 11 on the marking handed in.
+#[repr(C)]
+pub struct Moved {
+    pub number: u64,
+    pub waiting: u64,
+    pub marking: Marking,
+}
+
+// Beside a marking that is changed where it lies.
+#[repr(C)]
+pub struct Kept {
+    pub number: u64,
+    pub waiting: u64,
+}
+
+// How many entries passed, which is the index of the refused one; and the marking after them.
+#[repr(C)]
+pub struct Ran {
+    pub number: u64,
+    pub waiting: u64,
+    pub entries: u64,
+    pub marking: Marking,
+}
+
+// `ended` is 1 where no entry is left.
+#[repr(C)]
+pub struct Walked {
+    pub number: u64,
+    pub ended: u64,
+    pub entry: Entry,
+}
+
+// The verdict is 1 for accepted and 2 for starved, with the starved step. Index and pass are those of a refused entry.
+#[repr(C)]
+pub struct Lapped {
+    pub number: u64,
+    pub waiting: u64,
+    pub verdict: u64,
+    pub step: u64,
+    pub index: u64,
+    pub pass: u64,
+}
+
+// A state of the tracker. A flag above 0 is up.
+#[repr(C)]
+pub struct Track {
+    pub marking: Marking,
+    pub rank: u64,
+    pub flag: u64,
+}
+
+// The state after, or from 11 on the state handed in.
+#[repr(C)]
+pub struct Tracked {
+    pub number: u64,
+    pub waiting: u64,
+    pub track: Track,
+}
+
+// How many bytes are written.
+#[repr(C)]
+pub struct Written {
+    pub number: u64,
+    pub length: u64,
+}
