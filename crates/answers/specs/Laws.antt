@@ -34,7 +34,8 @@ as-flag true = refl
 as-flag false = refl
 
 -- what is kept only where nothing is against a sheet may be anything otherwise
-pub clear-twice : (v : Verdict) (m z : Marking) (before : List ℕ) → ifClear v (markingWords (ifClear v m z)) before ≡ ifClear v (markingWords m) before
+pub clear-twice : (v : Verdict) (m z : Marking) (before : List ℕ)
+    → ifClear v (markingWords (ifClear v m z)) before ≡ ifClear v (markingWords m) before
 unfolding ifClear
 clear-twice Verdict.Clear m z before = refl
 clear-twice (Verdict.Refused r) m z before = refl

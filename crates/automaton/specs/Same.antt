@@ -23,7 +23,8 @@ use Rattle.moves.specs.Inside.{Inside, inside-fits}
 use Rattle.rules.specs.Entries.{moved-after}
 use Rattle.tracker.specs.declared.Track.{Track}
 use Rattle.tracker.specs.declared.Tracked.{Tracked}
-use Rattle.tracker.specs.Tracker.{isRank, begin, rest, pending, above, pool, meets, served, trackAfter, startLines, theStart, theIdle, theStep}
+use Rattle.tracker.specs.Tracker.{isRank, begin, rest, pending, above, pool, meets, served, trackAfter, startLines, theStart, theIdle}
+use Rattle.tracker.specs.Tracker.{theStep}
 use Rattle.automaton.specs.Paper.{State, Initial, Tau, Transition, those, min, _∈_, rankOfMin, j′, i′}
 use Rattle.tracker.specs.Laws.{above-members, sound-inside, start-clear, idle-clear, idle-at, Stepped, step-at, at-step, rank-is}
 use Rattle.automaton.specs.States.{start-is}
@@ -49,7 +50,8 @@ or-comm false false = refl
 eqb-comm : (a b : ℕ) → eqb a b ≡ eqb b a
 eqb-comm a b = same-truth (eqb a b) (eqb b a) (λ h. eq-eqb b a (sym (eqb-true a b h))) (λ h. eq-eqb a b (sym (eqb-true b a h)))
 
-module _ (n p q e x : ℕ) (most : n ≤ 64) (small : x < 2 ^ n) (some-x : empty x ≡ false) (part : (s : ℕ) → has x s ≡ true → has p s ≡ true) where
+module _ (n p q e x : ℕ) (most : n ≤ 64) (small : x < 2 ^ n) (some-x : empty x ≡ false)
+    (part : (s : ℕ) → has x s ≡ true → has p s ≡ true) where
   same-lowest : lowest 64 x ≡ lowest n x
   same-lowest = lowest-wider n 64 x most small (eqb-false x 0 some-x)
 
@@ -64,7 +66,8 @@ module _ (n p q e x : ℕ) (most : n ≤ 64) (small : x < 2 ^ n) (some-x : empty
   min-gone =
       ap (λ (o : Option ℕ). o ∈ union (minus p q) (single e)) min-is
       ∙ has-union (minus p q) (single e) (lowest 64 x)
-      ∙ ap₂ _||_ (has-minus p q (lowest 64 x) ∙ ap (λ (b : Bool). b && not (has q (lowest 64 x))) lowest-in) (has-single e (lowest 64 x) ∙ eqb-comm e (lowest 64 x))
+      ∙ ap₂ _||_ (has-minus p q (lowest 64 x) ∙ ap (λ (b : Bool). b && not (has q (lowest 64 x))) lowest-in)
+      (has-single e (lowest 64 x) ∙ eqb-comm e (lowest 64 x))
       ∙ or-comm (not (has q (lowest 64 x))) (eqb (lowest 64 x) e)
 
   min-rank : rankOfMin (min n x) ≡ lowest 64 x + 1
@@ -104,12 +107,15 @@ ranked n i e p q h = cond (min n h ∈ left e p q) (rankOfMin (min n h)) (cond (
 
 module _ (n i e p q : ℕ) (most : n ≤ 64) (small : p < 2 ^ n) where
   abbrev Same : Type 0
-  Same = (cond (served i p q e) true (empty q) ≡ flagged n e p q (above i p)) × (cond (served i p q e) (lowest 64 (pool i p) + 1) i ≡ ranked n i e p q (above i p))
+  Same = (cond (served i p q e) true (empty q) ≡ flagged n e p q (above i p))
+      × (cond (served i p q e) (lowest 64 (pool i p) + 1) i ≡ ranked n i e p q (above i p))
 
-  by-b : (min n (above i p) ∈ left e p q) ≡ served i p q e → (empty (above i p) && (min n p ∈ left e p q)) ≡ false → rankOfMin (min n (above i p)) ≡ lowest 64 (pool i p) + 1 → Same
+  by-b : (min n (above i p) ∈ left e p q) ≡ served i p q e → (empty (above i p) && (min n p ∈ left e p q)) ≡ false
+      → rankOfMin (min n (above i p)) ≡ lowest 64 (pool i p) + 1 → Same
   by-b = agree-b _ _ _ _ _ _ _ _
 
-  by-c : (min n (above i p) ∈ left e p q) ≡ false → (empty (above i p) && (min n p ∈ left e p q)) ≡ served i p q e → (served i p q e ≡ true → rankOfMin (min n p) ≡ lowest 64 (pool i p) + 1) → Same
+  by-c : (min n (above i p) ∈ left e p q) ≡ false → (empty (above i p) && (min n p ∈ left e p q)) ≡ served i p q e
+      → (served i p q e ≡ true → rankOfMin (min n p) ≡ lowest 64 (pool i p) + 1) → Same
   by-c = agree-c _ _ _ _ _ _ _ _
 
   agree : Same
@@ -123,7 +129,8 @@ module _ (n i e p q : ℕ) (most : n ≤ 64) (small : p < 2 ^ n) where
       less = minus-lt n p (full i) small
 
       go : (h : Bool) → empty (above i p) ≡ h → (k : Bool) → empty p ≡ k → Same
-      go false eh k ek = by-b (min-gone n p q e (above i p) most less eh part ∙ simp eh) (simp eh) (min-rank n p q e (above i p) most less eh part ∙ simp eh)
+      go false eh k ek = by-b (min-gone n p q e (above i p) most less eh part ∙ simp eh) (simp eh)
+          (min-rank n p q e (above i p) most less eh part ∙ simp eh)
       go true eh false ek =
           by-c (simp eh)
           (ap (λ (b : Bool). b && (min n p ∈ left e p q)) eh ∙ min-gone n p q e p most small ek (λ s k. k) ∙ simp (eh, ek))
@@ -151,14 +158,16 @@ module _ (n : ℕ) (t : Track) (next : Marking) (e : ℕ) (most : n ≤ 64) (sma
   flag-same =
       agree n i e p q most small .0
       ∙ ap (flagged n e p q) (sym (those-above n i p small))
-      ∙ ap₂ (λ (x y : ℕ). flagged n e x y (higher n i x)) (and-comm (t .marking .due) (t .marking .included)) (and-comm (next .due) (next .included))
+      ∙ ap₂ (λ (x y : ℕ). flagged n e x y (higher n i x)) (and-comm (t .marking .due) (t .marking .included))
+      (and-comm (next .due) (next .included))
 
   rank-same : trackAfter t next e .rank .0 ≡ i′ n (t .marking) next i e
   rank-same =
       rank-is t next e
       ∙ agree n i e p q most small .1
       ∙ ap (ranked n i e p q) (sym (those-above n i p small))
-      ∙ ap₂ (λ (x y : ℕ). ranked n i e x y (higher n i x)) (and-comm (t .marking .due) (t .marking .included)) (and-comm (next .due) (next .included))
+      ∙ ap₂ (λ (x y : ℕ). ranked n i e x y (higher n i x)) (and-comm (t .marking .due) (t .marking .included))
+      (and-comm (next .due) (next .included))
 
 -- ---- the two are the same
 
@@ -173,7 +182,8 @@ ranked-of : (n : ℕ) (t : Track) → State n t → isRank n (t .rank .0) ≡ tr
 ranked-of n t s = and-intro (le-leb 1 (t .rank .0) (s .rank-some)) (le-leb (t .rank .0) n (s .rank-most))
 
 -- the start, of each graph and each marking of it
-pub same-start : (g : Graph) (m : Marking) (s : Track) → graphVerdict g ≡ Verdict.Clear → Inside (g .steps) m → (theStart g m ≡ Tracked.At s) ↔ Initial m s
+pub same-start : (g : Graph) (m : Marking) (s : Track) → graphVerdict g ≡ Verdict.Clear → Inside (g .steps) m
+    → (theStart g m ≡ Tracked.At s) ↔ Initial m s
 same-start g m s clear within = (to, from)
   where
     to : theStart g m ≡ Tracked.At s → Initial m s
@@ -181,7 +191,13 @@ same-start g m s clear within = (to, from)
 
     from : Initial m s → theStart g m ≡ Tracked.At s
     from r =
-        let same : begin m ≡ s = λ k. record { marking = sym (r .marking-is) k; rank = record { 0 = sym (r .rank-is) k }; flag = (finished-same m ∙ sym (r .flag-is)) k } in
+        let same : begin m ≡ s = λ k.
+        record {
+          marking = sym (r .marking-is) k;
+          rank = record { 0 = sym (r .rank-is) k };
+          flag =
+              (finished-same m ∙ sym (r .flag-is)) k;
+        } in
         start-clear g m (sound-of g m clear within) ∙ ap Tracked.At same
 
 -- the idle move, from each state
@@ -200,11 +216,17 @@ same-idle g t u clear state = (to, from)
     from : Tau t u → theIdle g t ≡ Tracked.At u
     from r =
         let same : rest t ≡ u =
-        λ k. record { marking = sym (r .marking-is) k; rank = record { 0 = sym (r .rank-is) k }; flag = (finished-same (t .marking) ∙ sym (r .a)) k } in
+        λ k. record {
+          marking = sym (r .marking-is) k;
+          rank = record { 0 = sym (r .rank-is) k };
+          flag =
+              (finished-same (t .marking) ∙ sym (r .a)) k;
+        } in
         idle-clear g t (sound-of g (t .marking) clear (state .marking-in)) (ranked-of (g .steps) t state) ∙ ap Tracked.At same
 
 -- each step, from each state
-pub same-step : (g : Graph) (t : Track) (e : Entry) (u : Track) → graphVerdict g ≡ Verdict.Clear → State (g .steps) t → (theStep g t e ≡ Tracked.At u) ↔ Transition g e t u
+pub same-step : (g : Graph) (t : Track) (e : Entry) (u : Track) → graphVerdict g ≡ Verdict.Clear → State (g .steps) t
+    → (theStep g t e ≡ Tracked.At u) ↔ Transition g e t u
 unfolding trackAfter
 same-step g t e u clear state = (to, from)
   where

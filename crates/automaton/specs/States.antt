@@ -24,23 +24,30 @@ use Rattle.rules.specs.Sound.{Sound, clear-sound, after-inside}
 use Rattle.rules.specs.Entries.{moved-clear, moved-after}
 use Rattle.tracker.specs.declared.Track.{Track}
 use Rattle.tracker.specs.declared.Tracked.{Tracked}
-use Rattle.tracker.specs.Tracker.{pending, above, pool, meets, served, begin, rest, startLines, idleLines, stepLines, trackedOf, theStart, theIdle, theStep, numberOfTracked, stepOfTracked}
+use Rattle.tracker.specs.Tracker.{pending, above, pool, meets, served, begin, rest, startLines, idleLines, stepLines, trackedOf, theStart}
+use Rattle.tracker.specs.Tracker.{theIdle, theStep, numberOfTracked, stepOfTracked}
 use Rattle.automaton.specs.Paper.{State}
 use Rattle.tracker.specs.Laws.{clear-graph, clear-fits, rank-some, rank-most, rank-is, start-at, Idled, idle-at, Stepped, step-at}
 
 -- ---- start and idle move
 
 -- at the start the rank is 1 and the flag is up exactly if the job is finished
-pub start-is : (g : Graph) (m : Marking) (u : Track) → theStart g m ≡ Tracked.At u → (u .marking ≡ m) × (u .rank .0 ≡ 1) × (u .flag ≡ isFinished m)
+pub start-is : (g : Graph) (m : Marking) (u : Track) → theStart g m ≡ Tracked.At u → (u .marking ≡ m) × (u .rank .0 ≡ 1)
+    × (u .flag ≡ isFinished m)
 start-is g m u e =
     let same : begin m ≡ u = start-at g m u e .1 in
     (ap (λ (t : Track). t .marking) (sym same), ap (λ (t : Track). t .rank .0) (sym same), ap (λ (t : Track). t .flag) (sym same))
 
 -- an idle move keeps marking and rank, and the flag after it is the finished test
-pub idle-is : (g : Graph) (t u : Track) → theIdle g t ≡ Tracked.At u → (u .marking ≡ t .marking) × (u .rank ≡ t .rank) × (u .flag ≡ isFinished (u .marking))
+pub idle-is : (g : Graph) (t u : Track) → theIdle g t ≡ Tracked.At u → (u .marking ≡ t .marking) × (u .rank ≡ t .rank)
+    × (u .flag ≡ isFinished (u .marking))
 idle-is g t u e =
-    let same : rest t ≡ u = idle-at g t u e .result in
-    (ap (λ (t : Track). t .marking) (sym same), ap (λ (t : Track). t .rank) (sym same), ap (λ (t : Track). t .flag) (sym same) ∙ ap (λ (t : Track). isFinished (t .marking)) same)
+    let same : rest t ≡ u = idle-at g t u e .result in (
+      ap (λ (t : Track). t .marking) (sym same),
+      ap (λ (t : Track). t .rank) (sym same),
+      ap (λ (t : Track). t .flag) (sym same)
+          ∙ ap (λ (t : Track). isFinished (t .marking)) same,
+    )
 
 -- ---- a state stays a state: the marking within the graph, the rank within 1..n
 
@@ -48,7 +55,13 @@ pub start-state : (g : Graph) (m : Marking) (u : Track) → theStart g m ≡ Tra
 start-state g m u e =
     let at = start-at g m u e in
     let sound : Sound g = clear-sound g (clear-graph g m (at .0)) in
-    subst (State (g .steps)) (at .1) (record { marking-in = fits-inside (g .steps) m (clear-fits g m (at .0)); rank-some = omega arith; rank-most = sound .counted .steps-some })
+    subst (State (g .steps)) (at .1)
+    (record {
+      marking-in = fits-inside (g .steps) m (clear-fits g m (at .0));
+      rank-some = omega arith;
+      rank-most =
+          sound .counted .steps-some;
+    })
 
 pub idle-state : (g : Graph) (t u : Track) → theIdle g t ≡ Tracked.At u → State (g .steps) u
 idle-state g t u e =
@@ -78,7 +91,8 @@ rank-after n i p q e most small some below = go (served i p q e) refl
   where
     go : (b : Bool) → served i p q e ≡ b → (1 ≤ cond b (lowest 64 (pool i p) + 1) i) × (cond b (lowest 64 (pool i p) + 1) i ≤ n)
     go true s =
-        let x : lowest 64 (pool i p) < n = x-below n i p most small (not-true _ (and-left (not (empty (pool i p))) (meets (lowest 64 (pool i p)) e q) s)) in
+        let x : lowest 64 (pool i p) < n =
+        x-below n i p most small (not-true _ (and-left (not (empty (pool i p))) (meets (lowest 64 (pool i p)) e q) s)) in
         (omega arith, omega arith)
     go false s = (some, below)
 
@@ -93,12 +107,17 @@ step-state g t e u q =
     let within : Inside n m = fits-inside n m (clear-fits g m front) in
     let is : known g e ≡ true = not-false (known g e) (clear-head _ _ (clear-back (startLines g m) (entryLines g m e) clear)) in
     let low : e .step .0 < n =
-    ltb-true (e .step .0) n (and-right (ltb (e .person) (g .people)) (ltb (e .step .0) n) (and-left (ltb (e .person) (g .people) && ltb (e .step .0) n) (ltb (e .role) (g .roles)) is)) in
-    let ranks = rank-after n (t .rank .0) (pending m) (pending (u .marking)) (e .step .0) (sound .counted .steps-most) (meet-lt n (m .due) (m .included) (within .due-in)) (rank-some n (t .rank .0) (s .ranked)) (rank-most n (t .rank .0) (s .ranked)) in
-    let same : cond (served (t .rank .0) (pending m) (pending (u .marking)) (e .step .0)) (lowest 64 (pool (t .rank .0) (pending m)) + 1) (t .rank .0) ≡ u .rank .0 =
+    ltb-true (e .step .0) n
+    (and-right (ltb (e .person) (g .people)) (ltb (e .step .0) n)
+    (and-left (ltb (e .person) (g .people) && ltb (e .step .0) n) (ltb (e .role) (g .roles)) is)) in
+    let ranks = rank-after n (t .rank .0) (pending m) (pending (u .marking)) (e .step .0) (sound .counted .steps-most)
+    (meet-lt n (m .due) (m .included) (within .due-in)) (rank-some n (t .rank .0) (s .ranked)) (rank-most n (t .rank .0) (s .ranked)) in
+    let same : cond (served (t .rank .0) (pending m) (pending (u .marking)) (e .step .0)) (lowest 64 (pool (t .rank .0) (pending m)) + 1)
+    (t .rank .0) ≡ u .rank .0 =
     sym (rank-is t (u .marking) (e .step .0)) ∙ ap (λ (v : Track). v .rank .0) (s .result) in
     record {
-      marking-in = subst (Inside n) (moved-after g m (u .marking) e (s .moved)) (after-inside g m (e .person) (e .step .0) sound low within);
+      marking-in = subst (Inside n) (moved-after g m (u .marking) e (s .moved))
+          (after-inside g m (e .person) (e .step .0) sound low within);
       rank-some = subst (λ (i : ℕ). 1 ≤ i) same (ranks .0);
       rank-most = subst (λ (i : ℕ). i ≤ n) same (ranks .1);
     }
@@ -149,9 +168,11 @@ refused-waits r before next = either (leb 11 (numberOf r))
     either true = refl
     either false = refl
 
-tracked-waits : (v : Verdict) (r : Refusal) (before next : Track) → v ≡ Verdict.Refused r → stepOfTracked (trackedOf v before next) ≡ stepOf r
+tracked-waits : (v : Verdict) (r : Refusal) (before next : Track) → v ≡ Verdict.Refused r
+    → stepOfTracked (trackedOf v before next) ≡ stepOf r
 tracked-waits v r before next e = ap (λ (w : Verdict). stepOfTracked (trackedOf w before next)) e ∙ refused-waits r before next
 
-pub step-waits : (g : Graph) (t : Track) (e : Entry) (r : Refusal) → first (stepLines g t e) ≡ Verdict.Refused r → stepOfTracked (theStep g t e) ≡ stepOf r
+pub step-waits : (g : Graph) (t : Track) (e : Entry) (r : Refusal) → first (stepLines g t e) ≡ Verdict.Refused r
+    → stepOfTracked (theStep g t e) ≡ stepOf r
 unfolding theStep
 step-waits g t e r refused = tracked-waits (first (stepLines g t e)) r t _ refused

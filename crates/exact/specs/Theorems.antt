@@ -43,7 +43,8 @@ join-keeps n a b p q = of-well-formed n (join a b) (join-well-formed n a b (well
 
 pub join-assoc : (n : ℕ) (a b c : Record) → WellFormed n a → WellFormed n b → WellFormed n c → join (join a b) c ≡ join a (join b c)
 join-assoc n a b c p q r =
-    unique n (join (join a b) c) (join a (join b c)) (join-well-formed n (join a b) c (join-well-formed n a b p q) r) (join-well-formed n a (join b c) p (join-well-formed n b c q r))
+    unique n (join (join a b) c) (join a (join b c)) (join-well-formed n (join a b) c (join-well-formed n a b p q) r)
+    (join-well-formed n a (join b c) p (join-well-formed n b c q r))
     (λ m h. acts-join (join a b) c m
     ∙ ap (λ (o : Option Marking). bind o (acts c)) (acts-join a b m)
     ∙ then-again (acts a m) (acts b) (acts c)
@@ -84,9 +85,11 @@ three-two n r w =
     ∙ sym (acts-join r r m))
 
 -- two well-formed records have equal bytes exactly if they act alike at every marking
-pub bytes-exactly : (n : ℕ) (a b : Record) → n ≤ 64 → wellFormed n a ≡ true → wellFormed n b ≡ true → (recordBytes a ≡ recordBytes b) ↔ Alike n a b
+pub bytes-exactly : (n : ℕ) (a b : Record) → n ≤ 64 → wellFormed n a ≡ true → wellFormed n b ≡ true → (recordBytes a ≡ recordBytes b)
+    ↔ Alike n a b
 bytes-exactly n a b h p q = (
-  λ e. equal-exactly n a b p q .0 (bytes-same a b (bounded-64 n a h (well-formed n a p .bounded)) (bounded-64 n b h (well-formed n b q .bounded)) e),
+  λ e. equal-exactly n a b p q .0
+      (bytes-same a b (bounded-64 n a h (well-formed n a p .bounded)) (bounded-64 n b h (well-formed n b q .bounded)) e),
   λ l. ap recordBytes (equal-exactly n a b p q .1 l),
 )
 
@@ -96,8 +99,10 @@ bytes-exactly n a b h p q = (
 abbrev pub Then : ℕ → Record → Record → Record → Type 0
 Then n a b r = (m : Marking) → Inside n m → acts r m ≡ bind (acts a m) (acts b)
 
-pub join-exactly : (n : ℕ) (a b r : Record) → wellFormed n a ≡ true → wellFormed n b ≡ true → (r ≡ join a b) ↔ ((wellFormed n r ≡ true) × Then n a b r)
+pub join-exactly : (n : ℕ) (a b r : Record) → wellFormed n a ≡ true → wellFormed n b ≡ true → (r ≡ join a b)
+    ↔ ((wellFormed n r ≡ true) × Then n a b r)
 join-exactly n a b r p q = (
   λ e. (ap (wellFormed n) e ∙ join-keeps n a b p q, λ m h. ap (λ (x : Record). acts x m) e ∙ acts-join a b m),
-  λ t. unique n r (join a b) (well-formed n r (t .0)) (well-formed n (join a b) (join-keeps n a b p q)) (λ m h. t .1 m h ∙ sym (acts-join a b m)),
+  λ t. unique n r (join a b) (well-formed n r (t .0)) (well-formed n (join a b) (join-keeps n a b p q))
+      (λ m h. t .1 m h ∙ sym (acts-join a b m)),
 )

@@ -31,16 +31,19 @@ same-of {a} {b} e = ap (bitXor a) (sym e) ∙ xor-self a
 told-set : (x c s d t : ℕ) → meet s x ≡ 0 → meet t x ≡ 0 → union (minus x c) s ≡ union (minus x d) t → s ≡ t
 told-set x c s d t p q e =
     by-digits
-    (λ v. union (union (meet (getD v 2 0) (getD v 0 0)) (meet (getD v 4 0) (getD v 0 0))) (bitXor (union (minus (getD v 0 0) (getD v 1 0)) (getD v 2 0)) (union (minus (getD v 0 0) (getD v 3 0)) (getD v 4 0))))
+    (λ v. union (union (meet (getD v 2 0) (getD v 0 0)) (meet (getD v 4 0) (getD v 0 0)))
+    (bitXor (union (minus (getD v 0 0) (getD v 1 0)) (getD v 2 0)) (union (minus (getD v 0 0) (getD v 3 0)) (getD v 4 0))))
     (λ v. getD v 2 0) (λ v. getD v 4 0)
     (x ∷ c ∷ s ∷ d ∷ t ∷ []) (λ i. simp at-digit) (λ i. refl) (λ i. refl) refl
     (none-of (none-of p q) (same-of e))
 
 -- what was cleared, where all of it was there
-told-clear : (x c s d t : ℕ) → minus c x ≡ 0 → minus d x ≡ 0 → meet s c ≡ 0 → meet t d ≡ 0 → union (minus x c) s ≡ union (minus x d) t → c ≡ d
+told-clear : (x c s d t : ℕ) → minus c x ≡ 0 → minus d x ≡ 0 → meet s c ≡ 0 → meet t d ≡ 0 → union (minus x c) s ≡ union (minus x d) t
+    → c ≡ d
 told-clear x c s d t p q k l e =
     by-digits
-    (λ v. union (union (union (minus (getD v 1 0) (getD v 0 0)) (minus (getD v 3 0) (getD v 0 0))) (union (meet (getD v 2 0) (getD v 1 0)) (meet (getD v 4 0) (getD v 3 0))))
+    (λ v. union (union (union (minus (getD v 1 0) (getD v 0 0)) (minus (getD v 3 0) (getD v 0 0)))
+    (union (meet (getD v 2 0) (getD v 1 0)) (meet (getD v 4 0) (getD v 3 0))))
     (bitXor (union (minus (getD v 0 0) (getD v 1 0)) (getD v 2 0)) (union (minus (getD v 0 0) (getD v 3 0)) (getD v 4 0))))
     (λ v. getD v 1 0) (λ v. getD v 3 0)
     (x ∷ c ∷ s ∷ d ∷ t ∷ []) (λ i. simp at-digit) (λ i. refl) (λ i. refl) refl
@@ -106,7 +109,8 @@ applies-of r m off e = applies-lacks r m ∙ ap₂ (λ (p q : Bool). not p && q)
 applies-own : (n : ℕ) (r : Record) (x : ℕ) → WellFormed n r → r .never ≡ false → meet x (r .needout) ≡ 0 → applies r (own r x) ≡ true
 applies-own n r x w off e =
     applies-of r (own r x) off
-    (by-digits (λ v. union (meet (getD v 0 0) (getD v 2 0)) (meet (getD v 3 0) (getD v 2 0))) (λ v. lacks (one-of v) (own (one-of v) (getD v 3 0))) (λ v. 0)
+    (by-digits (λ v. union (meet (getD v 0 0) (getD v 2 0)) (meet (getD v 3 0) (getD v 2 0)))
+    (λ v. lacks (one-of v) (own (one-of v) (getD v 3 0))) (λ v. 0)
     (r .needin ∷ r .needex ∷ r .needout ∷ x ∷ []) (λ i. simp at-digit) (λ i. simp at-digit) (λ i. simp at-digit) refl
     (none-of (w .needin-needout) e))
 
@@ -116,32 +120,40 @@ applies-everything n r b off =
     (by-digits (λ v. union (union (minus (getD v 0 0) (getD v 3 0)) (minus (getD v 1 0) (getD v 3 0))) (minus (getD v 2 0) (getD v 3 0)))
     (λ v. lacks (one-of v) (record { done = getD v 3 0; due = getD v 3 0; included = getD v 3 0 })) (λ v. 0)
     (r .needin ∷ r .needex ∷ r .needout ∷ full n ∷ []) (λ i. simp at-digit) (λ i. simp at-digit) (λ i. simp at-digit) refl
-    (none-of (none-of (inside-full n (r .needin) (b .needin-in)) (inside-full n (r .needex) (b .needex-in))) (inside-full n (r .needout) (b .needout-in))))
+    (none-of (none-of (inside-full n (r .needin) (b .needin-in)) (inside-full n (r .needex) (b .needex-in)))
+    (inside-full n (r .needout) (b .needout-in))))
 
 spare-apart : (n : ℕ) (r : Record) → meet (spare n r) (r .needout) ≡ 0
-spare-apart n r = as-sets (λ v. meet (minus (getD v 0 0) (getD v 1 0)) (getD v 1 0)) (λ v. 0) (full n ∷ r .needout ∷ []) (λ i. simp at-digit) (λ i. simp at-digit) refl
+spare-apart n r = as-sets (λ v. meet (minus (getD v 0 0) (getD v 1 0)) (getD v 1 0)) (λ v. 0) (full n ∷ r .needout ∷ [])
+    (λ i. simp at-digit) (λ i. simp at-digit) refl
 
 -- ---- the needs are the same
 
 needin-same : (a b : Record) → lacks b (own a 0) ≡ 0 → lacks a (own b 0) ≡ 0 → a .needin ≡ b .needin
 needin-same a b p q =
-    by-digits (λ v. union (lacks (other-of v) (own (one-of v) 0)) (lacks (one-of v) (own (other-of v) 0))) (λ v. getD v 0 0) (λ v. getD v 3 0)
+    by-digits (λ v. union (lacks (other-of v) (own (one-of v) 0)) (lacks (one-of v) (own (other-of v) 0))) (λ v. getD v 0 0)
+    (λ v. getD v 3 0)
     (a .needin ∷ a .needex ∷ a .needout ∷ b .needin ∷ b .needex ∷ b .needout ∷ []) (λ i. simp at-digit) (λ i. refl) (λ i. refl) refl
     (none-of p q)
 
 needex-same : (a b : Record) → lacks b (own a 0) ≡ 0 → lacks a (own b 0) ≡ 0 → a .needex ≡ b .needex
 needex-same a b p q =
-    by-digits (λ v. union (lacks (other-of v) (own (one-of v) 0)) (lacks (one-of v) (own (other-of v) 0))) (λ v. getD v 1 0) (λ v. getD v 4 0)
+    by-digits (λ v. union (lacks (other-of v) (own (one-of v) 0)) (lacks (one-of v) (own (other-of v) 0))) (λ v. getD v 1 0)
+    (λ v. getD v 4 0)
     (a .needin ∷ a .needex ∷ a .needout ∷ b .needin ∷ b .needex ∷ b .needout ∷ []) (λ i. simp at-digit) (λ i. refl) (λ i. refl) refl
     (none-of p q)
 
-needout-same : (n : ℕ) (a b : Record) → WellFormed n a → WellFormed n b → lacks b (own a (spare n a)) ≡ 0 → lacks a (own b (spare n b)) ≡ 0 → a .needout ≡ b .needout
+needout-same : (n : ℕ) (a b : Record) → WellFormed n a → WellFormed n b → lacks b (own a (spare n a)) ≡ 0 → lacks a (own b (spare n b)) ≡ 0
+    → a .needout ≡ b .needout
 needout-same n a b wa wb p q =
     by-digits
-    (λ v. union (union (lacks (other-of v) (own (one-of v) (minus (getD v 6 0) (getD v 2 0)))) (lacks (one-of v) (own (other-of v) (minus (getD v 6 0) (getD v 5 0)))))
-    (union (union (meet (getD v 1 0) (getD v 2 0)) (meet (getD v 4 0) (getD v 5 0))) (union (minus (getD v 2 0) (getD v 6 0)) (minus (getD v 5 0) (getD v 6 0)))))
+    (λ v. union (union (lacks (other-of v) (own (one-of v) (minus (getD v 6 0) (getD v 2 0))))
+    (lacks (one-of v) (own (other-of v) (minus (getD v 6 0) (getD v 5 0)))))
+    (union (union (meet (getD v 1 0) (getD v 2 0)) (meet (getD v 4 0) (getD v 5 0)))
+    (union (minus (getD v 2 0) (getD v 6 0)) (minus (getD v 5 0) (getD v 6 0)))))
     (λ v. getD v 2 0) (λ v. getD v 5 0)
-    (a .needin ∷ a .needex ∷ a .needout ∷ b .needin ∷ b .needex ∷ b .needout ∷ full n ∷ []) (λ i. simp at-digit) (λ i. refl) (λ i. refl) refl
+    (a .needin ∷ a .needex ∷ a .needout ∷ b .needin ∷ b .needex ∷ b .needout ∷ full n ∷ []) (λ i. simp at-digit) (λ i. refl)
+    (λ i. refl) refl
     (none-of (none-of p q) (none-of (none-of (wa .needex-needout) (wb .needex-needout))
     (none-of (inside-full n (a .needout) (wa .bounded .needout-in)) (inside-full n (b .needout) (wb .bounded .needout-in)))))
 
@@ -160,7 +172,8 @@ alike-at a b m e t =
 
 module _ (n : ℕ) (a b : Record) (wa : WellFormed n a) (wb : WellFormed n b) (alike : Alike n a b) where
   -- where never is off, the other applies to a's own needs
-  meets : a .never ≡ false → (x : ℕ) → x < 2 ^ n → meet x (a .needout) ≡ 0 → (applies b (own a x) ≡ true) × (gives a (own a x) ≡ gives b (own a x))
+  meets : a .never ≡ false → (x : ℕ) → x < 2 ^ n → meet x (a .needout) ≡ 0 → (applies b (own a x) ≡ true)
+      × (gives a (own a x) ≡ gives b (own a x))
   meets off x h e = alike-at a b (own a x) (alike (own a x) (own-inside n a x (wa .bounded) h)) (applies-own n a x wa off e)
 
   never-off : a .never ≡ false → b .never ≡ false
@@ -182,22 +195,28 @@ off-unique n a b wa wb alike aoff boff =
     let lack' : lacks a (own b 0) ≡ 0 = applies-none a (own b 0) (ba .0) in
     let in-same : a .needin ≡ b .needin = needin-same a b lack lack' in
     let ex-same : a .needex ≡ b .needex = needex-same a b lack lack' in
-    let out-same : a .needout ≡ b .needout = needout-same n a b wa wb (applies-none b (own a (spare n a)) (ab' .0)) (applies-none a (own b (spare n b)) (ba' .0)) in
+    let out-same : a .needout ≡ b .needout =
+    needout-same n a b wa wb (applies-none b (own a (spare n a)) (ab' .0)) (applies-none a (own b (spare n b)) (ba' .0)) in
     let given = ab .1 in
     let all = alike-at a b (everything n) (alike (everything n) (everything-inside n)) (applies-everything n a (wa .bounded) aoff) .1 in
     let done-same : a .done ≡ b .done =
     told-set (a .needex) 0 (a .done) 0 (b .done) (wa .done-needex) (ap (meet (b .done)) ex-same ∙ wb .done-needex)
-    (ap (λ (x : ℕ). union x (a .done)) (minus-zero (a .needex)) ∙ ap (λ (m : Marking). m .done) given ∙ ap (λ (x : ℕ). union x (b .done)) (sym (minus-zero (a .needex)))) in
+    (ap (λ (x : ℕ). union x (a .done)) (minus-zero (a .needex)) ∙ ap (λ (m : Marking). m .done) given
+    ∙ ap (λ (x : ℕ). union x (b .done)) (sym (minus-zero (a .needex)))) in
     let due-set : a .dueset ≡ b .dueset =
-    told-set 0 (a .dueclear) (a .dueset) (b .dueclear) (b .dueset) (and-zero-r (a .dueset)) (and-zero-r (b .dueset)) (ap (λ (m : Marking). m .due) given) in
+    told-set 0 (a .dueclear) (a .dueset) (b .dueclear) (b .dueset) (and-zero-r (a .dueset)) (and-zero-r (b .dueset))
+    (ap (λ (m : Marking). m .due) given) in
     let in-set : a .inset ≡ b .inset =
     told-set (union (a .needin) 0) (a .inclear) (a .inset) (b .inclear) (b .inset)
-    (ap (meet (a .inset)) (or-zero-r (a .needin)) ∙ wa .inset-needin) (ap (meet (b .inset)) (or-zero-r (a .needin) ∙ in-same) ∙ wb .inset-needin) (ap (λ (m : Marking). m .included) given) in
+    (ap (meet (a .inset)) (or-zero-r (a .needin)) ∙ wa .inset-needin)
+    (ap (meet (b .inset)) (or-zero-r (a .needin) ∙ in-same) ∙ wb .inset-needin) (ap (λ (m : Marking). m .included) given) in
     let due-clear : a .dueclear ≡ b .dueclear =
-    told-clear (full n) (a .dueclear) (a .dueset) (b .dueclear) (b .dueset) (inside-full n (a .dueclear) (wa .bounded .dueclear-in)) (inside-full n (b .dueclear) (wb .bounded .dueclear-in))
+    told-clear (full n) (a .dueclear) (a .dueset) (b .dueclear) (b .dueset) (inside-full n (a .dueclear) (wa .bounded .dueclear-in))
+    (inside-full n (b .dueclear) (wb .bounded .dueclear-in))
     (wa .dueset-dueclear) (wb .dueset-dueclear) (ap (λ (m : Marking). m .due) all) in
     let in-clear : a .inclear ≡ b .inclear =
-    told-clear (full n) (a .inclear) (a .inset) (b .inclear) (b .inset) (inside-full n (a .inclear) (wa .bounded .inclear-in)) (inside-full n (b .inclear) (wb .bounded .inclear-in))
+    told-clear (full n) (a .inclear) (a .inset) (b .inclear) (b .inset) (inside-full n (a .inclear) (wa .bounded .inclear-in))
+    (inside-full n (b .inclear) (wb .bounded .inclear-in))
     (wa .inset-inclear) (wb .inset-inclear) (ap (λ (m : Marking). m .included) all) in
     λ i. record {
       never = (aoff ∙ sym boff) i;

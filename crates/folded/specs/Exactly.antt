@@ -49,7 +49,9 @@ fold-exactly g j r clear long = (fold-tells g j r, back)
     back t =
         let made : theFold g j ≡ Recorded.Made (foldOf g (entries j)) = fold-clear g j clear long in
         let told = fold-tells g j (foldOf g (entries j)) made in
-        made ∙ ap Recorded.Made (unique (g .steps) (foldOf g (entries j)) r (well-formed (g .steps) (foldOf g (entries j)) (told .0)) (well-formed (g .steps) r (t .0))
+        made ∙ ap Recorded.Made
+        (unique (g .steps) (foldOf g (entries j)) r (well-formed (g .steps) (foldOf g (entries j)) (told .0))
+        (well-formed (g .steps) r (t .0))
         (λ m i. told .1 m (inside-fits (g .steps) m i) ∙ sym (t .1 m (inside-fits (g .steps) m i))))
 
 -- ---- never
@@ -86,7 +88,8 @@ shut-on g out m e shut t h =
     none-left true = refl
     none-left false = refl
 
-    go : (o : Bool) → has out t ≡ o → (i : Bool) → has inc t ≡ i → (x : Bool) → has exc t ≡ x → ((has (m .included) t || has inc t) && not (has exc t)) ≡ false
+    go : (o : Bool) → has out t ≡ o → (i : Bool) → has inc t ≡ i → (x : Bool) → has exc t ≡ x
+        → ((has (m .included) t || has inc t) && not (has exc t)) ≡ false
     go o p i q true r = ap (λ (b : Bool). (has (m .included) t || has inc t) && not b) r ∙ none-left (has (m .included) t || has inc t)
     go true p false q false r = ap₂ (λ (a b : Bool). (a || b) && not (has exc t)) (shut t p) q
     go true p true q false r = absurd (false≢true (sym (ap₂ (λ (a b : Bool). (a && not b) || has exc t) p q ∙ r) ∙ told))
@@ -111,7 +114,8 @@ barred-none g (e ∷ es) out m shut h =
     go true p false q w o r rest = simp (p, q)
     go true p true q false o r rest = simp (p, q)
     go true p true q true true r rest = absurd (true≢false (sym q ∙ shut (e .step .0) r))
-    go true p true q true false r rest = simp (p, q) (rest (ap₂ (λ (a b : Bool). (not a || b) || barred g (shutAfter g out e) es) (sym p) (sym r) ∙ h))
+    go true p true q true false r rest =
+        simp (p, q) (rest (ap₂ (λ (a b : Bool). (not a || b) || barred g (shutAfter g out e) es) (sym p) (sym r) ∙ h))
 
 -- every step of the graph is done, and included unless it is shut out
 record Free (g : Graph) (out : ℕ) (m : Marking) : Type 0 where
@@ -143,17 +147,21 @@ free-on g out m e free =
 
     go : (t : ℕ) → t < g .steps → (o : Bool) → has out t ≡ o → (i : Bool) → has inc t ≡ i → (x : Bool) → has exc t ≡ x
         → ((has out t && not (has inc t)) || has exc t) ≡ false → ((has (m .included) t || has inc t) && not (has exc t)) ≡ true
-    go t l o p i q true r f = absurd (true≢false (sym (ap (λ (b : Bool). (has out t && not (has inc t)) || b) r ∙ or-true (has out t && not (has inc t))) ∙ f))
+    go t l o p i q true r f =
+        absurd (true≢false (sym (ap (λ (b : Bool). (has out t && not (has inc t)) || b) r ∙ or-true (has out t && not (has inc t))) ∙ f))
     go t l true p false q false r f = absurd (true≢false (sym (ap₂ (λ (a b : Bool). (a && not b) || has exc t) p q) ∙ f))
-    go t l o p true q false r f = ap₂ (λ (a b : Bool). (has (m .included) t || a) && not b) q r ∙ ap (λ (b : Bool). b && true) (or-true (has (m .included) t))
+    go t l o p true q false r f = ap₂ (λ (a b : Bool). (has (m .included) t || a) && not b) q r
+        ∙ ap (λ (b : Bool). b && true) (or-true (has (m .included) t))
     go t l false p false q false r f = ap₂ (λ (a b : Bool). (a || has inc t) && not b) (free .let-in t l p) r
 
 -- where none is barred, every entry passes at such a marking
-free-passes : (g : Graph) (es : List Entry) (out : ℕ) (m : Marking) → Sound g → Free g out m → barred g out es ≡ false → (x : Marking) × (passes g m es ≡ some x)
+free-passes : (g : Graph) (es : List Entry) (out : ℕ) (m : Marking) → Sound g → Free g out m → barred g out es ≡ false → (x : Marking)
+    × (passes g m es ≡ some x)
 unfolding barred passes bind
 free-passes g [] out m sound free h = (m, refl)
 free-passes g (e ∷ es) out m sound free h =
-    go (possible g e) refl (has out (e .step .0)) refl (free-passes g es (shutAfter g out e) (after (rowAt g e) m (e .step .0)) sound (free-on g out m e free))
+    go (possible g e) refl (has out (e .step .0)) refl
+    (free-passes g es (shutAfter g out e) (after (rowAt g e) m (e .step .0)) sound (free-on g out m e free))
   where
     s : ℕ
     s = e .step .0
@@ -165,26 +173,32 @@ free-passes g (e ∷ es) out m sound free h =
     waits-not : empty (waitsFor (conditionsOf g s) m) ≡ true
     waits-not =
         members-empty (waitsFor (conditionsOf g s) m)
-        (λ t. has-minus (meet (conditionsOf g s) (m .included)) (m .done) t ∙ ap (λ (b : Bool). b && not (has (m .done) t)) (has-meet (conditionsOf g s) (m .included) t)
+        (λ t. has-minus (meet (conditionsOf g s) (m .included)) (m .done) t
+        ∙ ap (λ (b : Bool). b && not (has (m .done) t)) (has-meet (conditionsOf g s) (m .included) t)
         ∙ each t (has (conditionsOf g s) t) refl)
       where
         done-away : (b : Bool) → ((true && b) && false) ≡ false
         done-away true = refl
         done-away false = refl
 
-        each : (t : ℕ) (c : Bool) → has (conditionsOf g s) t ≡ c → ((has (conditionsOf g s) t && has (m .included) t) && not (has (m .done) t)) ≡ false
+        each : (t : ℕ) (c : Bool) → has (conditionsOf g s) t ≡ c
+            → ((has (conditionsOf g s) t && has (m .included) t) && not (has (m .done) t)) ≡ false
         each t false p = ap (λ (b : Bool). (b && has (m .included) t) && not (has (m .done) t)) p
         each t true p =
             ap₂ (λ (a b : Bool). (a && has (m .included) t) && not b) p
             (free .all-done t (member-below (g .steps) (conditionsOf g s) t (sound .conditions-in s) p)) ∙ done-away (has (m .included) t)
 
-    go : (p : Bool) → possible g e ≡ p → (o : Bool) → has out s ≡ o → (barred g (shutAfter g out e) es ≡ false → (x : Marking) × (passes g next es ≡ some x))
+    go : (p : Bool) → possible g e ≡ p → (o : Bool) → has out s ≡ o
+        → (barred g (shutAfter g out e) es ≡ false → (x : Marking) × (passes g next es ≡ some x))
         → (x : Marking) × (bind (movedTo (entryMove g m e)) (λ y. passes g y es) ≡ some x)
     go false p o q on = absurd (true≢false (sym (ap (λ (a : Bool). (not a || has out s) || barred g (shutAfter g out e) es) p) ∙ h))
     go true p true q on = absurd (true≢false (sym (ap₂ (λ (a b : Bool). (not a || b) || barred g (shutAfter g out e) es) p q) ∙ h))
     go true p false q on =
-        let there : s < g .steps = known-step g e (and-left (known g e) (personHolds (rowAt g e) e) (and-left (known g e && personHolds (rowAt g e) e) (stepHas (rowAt g e) e) p)) in
-        let rest : barred g (shutAfter g out e) es ≡ false = ap₂ (λ (a b : Bool). (not a || b) || barred g (shutAfter g out e) es) (sym p) (sym q) ∙ h in
+        let there : s < g .steps =
+        known-step g e (and-left (known g e) (personHolds (rowAt g e) e)
+        (and-left (known g e && personHolds (rowAt g e) e) (stepHas (rowAt g e) e) p)) in
+        let rest : barred g (shutAfter g out e) es ≡ false =
+        ap₂ (λ (a b : Bool). (not a || b) || barred g (shutAfter g out e) es) (sym p) (sym q) ∙ h in
         let goes = on rest in
         let moved : movedTo (entryMove g m e) ≡ some next =
         moved-if g e m ∙ ap₂ (λ (a b : Bool). cond a (cond b (some next) none) none) p (ap₂ _&&_ (free .let-in s there q) waits-not) in

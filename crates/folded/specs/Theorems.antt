@@ -69,12 +69,21 @@ pub folding : (g : Graph) (j : List ℕ) (r : Record) → theFold g j ≡ Record
 folding g j r e = graph (graphVerdict g) refl
   where
     long : graphVerdict g ≡ Verdict.Clear → (b : Bool) → lengthFits j ≡ b → Folding g j r
-    long clear true l = record { clear = clear; long = l; made = (let same : Recorded.Made (foldOf g (entries j)) ≡ Recorded.Made r = sym (fold-clear g j clear l) ∙ e in cc) }
-    long clear false l = absurd (let bad : Recorded.Refused _ ≡ Recorded.Made r = sym (fold-length g j clear l) ∙ e in let z : _≡_ {A = ℕ} 0 1 = cc in let w : ⊥ = omega arith in w)
+    long clear true l = record {
+      clear = clear;
+      long = l;
+      made =
+          (let same : Recorded.Made (foldOf g (entries j)) ≡ Recorded.Made r = sym (fold-clear g j clear l) ∙ e in cc);
+    }
+    long clear false l = absurd
+        (let bad : Recorded.Refused _ ≡ Recorded.Made r = sym (fold-length g j clear l) ∙ e in let z : _≡_ {A = ℕ} 0 1 = cc in let w : ⊥ =
+        omega arith in w)
 
     graph : (v : Verdict) → graphVerdict g ≡ v → Folding g j r
     graph Verdict.Clear q = long q (lengthFits j) refl
-    graph (Verdict.Refused p) q = absurd (let bad : Recorded.Refused p ≡ Recorded.Made r = sym (fold-graph g j p q) ∙ e in let z : _≡_ {A = ℕ} 0 1 = cc in let w : ⊥ = omega arith in w)
+    graph (Verdict.Refused p) q =
+        absurd (let bad : Recorded.Refused p ≡ Recorded.Made r = sym (fold-graph g j p q) ∙ e in let z : _≡_ {A = ℕ} 0 1 = cc in let w : ⊥ =
+        omega arith in w)
 
 -- The fold of a journal is well-formed, and at every marking of the graph it applies exactly when the run allows every entry,
 -- and then gives the run's end marking
@@ -83,12 +92,14 @@ pub fold-tells : (g : Graph) (j : List ℕ) (r : Record) → theFold g j ≡ Rec
 fold-tells g j r e =
     let f : Folding g j r = folding g j r e in (
       of-well-formed (g .steps) r (subst (WellFormed (g .steps)) (f .made) (fold-well-formed g (entries j) (clear-sound g (f .clear)))),
-      λ m i. ap (λ (q : Record). acts q m) (sym (f .made)) ∙ acts-fold g (entries j) m ∙ passes-end g m 0 (entries j) ∙ ap endOf (sym (run-inside g m j (f .clear) (f .long) i)),
+      λ m i. ap (λ (q : Record). acts q m) (sym (f .made)) ∙ acts-fold g (entries j) m ∙ passes-end g m 0 (entries j)
+          ∙ ap endOf (sym (run-inside g m j (f .clear) (f .long) i)),
     )
 
 -- a graph with nothing against it has 1 to 64 steps
 clear-steps : (g : Graph) → graphVerdict g ≡ Verdict.Clear → within1to (g .steps) 64 ≡ true
-clear-steps g e = let c : Counted (g .steps) (g .people) (g .roles) = clear-counts g e in and-intro (le-leb 1 (g .steps) (c .steps-some)) (le-leb (g .steps) 64 (c .steps-most))
+clear-steps g e = let c : Counted (g .steps) (g .people) (g .roles) = clear-counts g e in
+    and-intro (le-leb 1 (g .steps) (c .steps-some)) (le-leb (g .steps) 64 (c .steps-most))
 
 -- ---- one journal after another
 
@@ -98,7 +109,8 @@ unfolding entries foldOf
 fold-empty g clear = fold-clear g [] clear refl
 
 -- where both together are within the length limit, the record of one after the other is the join of their records
-pub fold-joins : (g : Graph) (a b : List ℕ) (p q : Record) → theFold g a ≡ Recorded.Made p → theFold g b ≡ Recorded.Made q → lengthFits (a ++ b) ≡ true
+pub fold-joins : (g : Graph) (a b : List ℕ) (p q : Record) → theFold g a ≡ Recorded.Made p → theFold g b ≡ Recorded.Made q
+    → lengthFits (a ++ b) ≡ true
     → theFold g (a ++ b) ≡ theJoin (g .steps) p q
 fold-joins g a b p q ea eb long =
     let fa : Folding g a p = folding g a p ea in
@@ -112,14 +124,16 @@ fold-joins g a b p q ea eb long =
 -- ---- going on from a record
 
 -- restoring is applying and then running
-pub restore-applied : (g : Graph) (r : Record) (j : List ℕ) (m x : Marking) → theApplication (g .steps) r m ≡ Applied.Gives x → theRestoring g r j m ≡ theRun g x j
+pub restore-applied : (g : Graph) (r : Record) (j : List ℕ) (m x : Marking) → theApplication (g .steps) r m ≡ Applied.Gives x
+    → theRestoring g r j m ≡ theRun g x j
 restore-applied g r j m x e = graph (graphVerdict g) refl
   where
     a : Applying (g .steps) r m x
     a = applying (g .steps) r m x e
 
     inside : Inside (g .steps) x
-    inside = subst (Inside (g .steps)) (a .given) (gives-inside (g .steps) r m (well-formed (g .steps) r (a .good) .bounded) (fits-inside (g .steps) m (a .fits)))
+    inside = subst (Inside (g .steps)) (a .given)
+        (gives-inside (g .steps) r m (well-formed (g .steps) r (a .good) .bounded) (fits-inside (g .steps) m (a .fits)))
 
     long : graphVerdict g ≡ Verdict.Clear → (b : Bool) → lengthFits j ≡ b → theRestoring g r j m ≡ theRun g x j
     long clear true l =
@@ -133,7 +147,8 @@ restore-applied g r j m x e = graph (graphVerdict g) refl
     graph (Verdict.Refused p) q = restore-graph g r j m p q ∙ sym (run-graph g x j p q)
 
 -- where the first journal passes, restoring from its record is running the second from where it ends
-pub restore-ended : (g : Graph) (a b : List ℕ) (p : Record) (m x : Marking) (n : ℕ) → theFold g a ≡ Recorded.Made p → theRun g m a ≡ Ran.Ended x n
+pub restore-ended : (g : Graph) (a b : List ℕ) (p : Record) (m x : Marking) (n : ℕ) → theFold g a ≡ Recorded.Made p
+    → theRun g m a ≡ Ran.Ended x n
     → theRestoring g p b m ≡ theRun g x b
 unfolding endOf
 restore-ended g a b p m x n ea ended =
@@ -142,10 +157,12 @@ restore-ended g a b p m x n ea ended =
     let within : markingFits (g .steps) m ≡ true = ended-passes g m x n a ended .0 .within in
     let does = acts-some p m x (told .1 m within ∙ ap endOf ended) in
     restore-applied g p b m x
-    (applied-of (g .steps) p m x (record { counts = clear-steps g (f .clear); fits = within; good = told .0; suits = does .0; given = does .1 }))
+    (applied-of (g .steps) p m x
+    (record { counts = clear-steps g (f .clear); fits = within; good = told .0; suits = does .0; given = does .1 }))
 
 -- where it stops, the record does not apply
-pub restore-stopped : (g : Graph) (a b : List ℕ) (p : Record) (m x : Marking) (k : ℕ) (q : Refusal) → theFold g a ≡ Recorded.Made p → markingFits (g .steps) m ≡ true → lengthFits b ≡ true
+pub restore-stopped : (g : Graph) (a b : List ℕ) (p : Record) (m x : Marking) (k : ℕ) (q : Refusal) → theFold g a ≡ Recorded.Made p
+    → markingFits (g .steps) m ≡ true → lengthFits b ≡ true
     → theRun g m a ≡ Ran.Stopped k q x → theRestoring g p b m ≡ Ran.Stopped 0 NotApplied m
 unfolding endOf
 restore-stopped g a b p m x k q ea within long stopped =

@@ -35,12 +35,15 @@ fold-graph g j q e = ap (λ (v : Verdict). recordedOf v (foldOf g (entries j))) 
 pub fold-length : (g : Graph) (j : List ℕ) → graphVerdict g ≡ Verdict.Clear → lengthFits j ≡ false → theFold g j ≡ Recorded.Refused Length
 unfolding theFold recordedOf first
 fold-length g j e f =
-    ap (λ (v : Verdict). recordedOf v (foldOf g (entries j))) (first-clear (graphLines g) (lengthLines j) e ∙ ap (λ (b : Bool). cond (not b) (Verdict.Refused Length) Verdict.Clear) f)
+    ap (λ (v : Verdict). recordedOf v (foldOf g (entries j)))
+    (first-clear (graphLines g) (lengthLines j) e ∙ ap (λ (b : Bool). cond (not b) (Verdict.Refused Length) Verdict.Clear) f)
 
-pub fold-clear : (g : Graph) (j : List ℕ) → graphVerdict g ≡ Verdict.Clear → lengthFits j ≡ true → theFold g j ≡ Recorded.Made (foldOf g (entries j))
+pub fold-clear : (g : Graph) (j : List ℕ) → graphVerdict g ≡ Verdict.Clear → lengthFits j ≡ true
+    → theFold g j ≡ Recorded.Made (foldOf g (entries j))
 unfolding theFold recordedOf first
 fold-clear g j e f =
-    ap (λ (v : Verdict). recordedOf v (foldOf g (entries j))) (first-clear (graphLines g) (lengthLines j) e ∙ ap (λ (b : Bool). cond (not b) (Verdict.Refused Length) Verdict.Clear) f)
+    ap (λ (v : Verdict). recordedOf v (foldOf g (entries j)))
+    (first-clear (graphLines g) (lengthLines j) e ∙ ap (λ (b : Bool). cond (not b) (Verdict.Refused Length) Verdict.Clear) f)
 
 -- ---- restore
 
@@ -51,21 +54,25 @@ module _ (g : Graph) (r : Record) (j : List ℕ) (m : Marking) where
 
   pub restore-graph : (q : Refusal) → graphVerdict g ≡ Verdict.Refused q → theRestoring g r j m ≡ Ran.Stopped 0 q noMarking
   unfolding theRestoring runOf
-  restore-graph q e = ap (λ (v : Verdict). runOf v tried) (first-refused (graphLines g) (lengthLines j ++ markingLines g m ++ (IllFormed, not (wellFormed (g .steps) r)) ∷ []) q e)
+  restore-graph q e = ap (λ (v : Verdict). runOf v tried)
+      (first-refused (graphLines g) (lengthLines j ++ markingLines g m ++ (IllFormed, not (wellFormed (g .steps) r)) ∷ []) q e)
 
   -- the lines after the graph's
-  restore-lines : (l f w : Bool) → graphVerdict g ≡ Verdict.Clear → lengthFits j ≡ l → markingFits (g .steps) m ≡ f → wellFormed (g .steps) r ≡ w
+  restore-lines : (l f w : Bool) → graphVerdict g ≡ Verdict.Clear → lengthFits j ≡ l → markingFits (g .steps) m ≡ f
+      → wellFormed (g .steps) r ≡ w
       → theRestoring g r j m ≡ runOf (first ((Length, not l) ∷ (Outside, not f) ∷ (IllFormed, not w) ∷ [])) tried
   unfolding theRestoring
   restore-lines l f w e p q s =
-      ap (λ (v : Verdict). runOf v tried) (first-clear (graphLines g) (lengthLines j ++ markingLines g m ++ (IllFormed, not (wellFormed (g .steps) r)) ∷ []) e)
+      ap (λ (v : Verdict). runOf v tried)
+      (first-clear (graphLines g) (lengthLines j ++ markingLines g m ++ (IllFormed, not (wellFormed (g .steps) r)) ∷ []) e)
       ∙ (λ i. runOf (first ((Length, not (p i)) ∷ (Outside, not (q i)) ∷ (IllFormed, not (s i)) ∷ [])) tried)
 
   pub restore-length : graphVerdict g ≡ Verdict.Clear → lengthFits j ≡ false → theRestoring g r j m ≡ Ran.Stopped 0 Length noMarking
   unfolding runOf first
   restore-length e p = restore-lines false (markingFits (g .steps) m) (wellFormed (g .steps) r) e p refl refl
 
-  pub restore-outside : graphVerdict g ≡ Verdict.Clear → lengthFits j ≡ true → markingFits (g .steps) m ≡ false → theRestoring g r j m ≡ Ran.Stopped 0 Outside noMarking
+  pub restore-outside : graphVerdict g ≡ Verdict.Clear → lengthFits j ≡ true → markingFits (g .steps) m ≡ false
+      → theRestoring g r j m ≡ Ran.Stopped 0 Outside noMarking
   unfolding runOf first
   restore-outside e p q = restore-lines true false (wellFormed (g .steps) r) e p q refl
 
@@ -74,11 +81,13 @@ module _ (g : Graph) (r : Record) (j : List ℕ) (m : Marking) where
   unfolding runOf first
   restore-ill e p q s = restore-lines true true false e p q s
 
-  pub restore-on : (a : Bool) → graphVerdict g ≡ Verdict.Clear → lengthFits j ≡ true → markingFits (g .steps) m ≡ true → wellFormed (g .steps) r ≡ true → applies r m ≡ a
+  pub restore-on : (a : Bool) → graphVerdict g ≡ Verdict.Clear → lengthFits j ≡ true → markingFits (g .steps) m ≡ true
+      → wellFormed (g .steps) r ≡ true → applies r m ≡ a
       → theRestoring g r j m ≡ cond a (runOn g (gives r m) 0 (entries j)) (Ran.Stopped 0 NotApplied m)
   unfolding runOf first
   restore-on a e p q s t =
       restore-lines true true true e p q s
       ∙ ap (λ (b : Bool). cond b (runFrom g (gives r m) 0 (entries j)) (Ran.Stopped 0 NotApplied m)) t
       ∙ ap (λ (o : Ran). cond a o (Ran.Stopped 0 NotApplied m))
-      (run-from g (gives r m) 0 (entries j) e (gives-inside (g .steps) r m (well-formed (g .steps) r s .bounded) (fits-inside (g .steps) m q)))
+      (run-from g (gives r m) 0 (entries j) e
+      (gives-inside (g .steps) r m (well-formed (g .steps) r s .bounded) (fits-inside (g .steps) m q)))

@@ -30,7 +30,8 @@ use Rattle.journal.specs.Journal.{entries, entryAt}
 use Rattle.journal.specs.Laws.{entries-from}
 use Rattle.records.specs.declared.Record.{Record}
 use Rattle.records.specs.Records.{applies, gives, acts, identity, impossible, compose, sorted, tidy, join}
-use Rattle.records.specs.Laws.{acts-join, acts-tidy, acts-compose, acts-identity, acts-impossible, gives-identity, gives-compose, gives-again}
+use Rattle.records.specs.Laws.{acts-join, acts-tidy, acts-compose, acts-identity, acts-impossible, gives-identity, gives-compose}
+use Rattle.records.specs.Laws.{gives-again}
 use Rattle.records.specs.WellFormed.{Bounded, WellFormed, compose-bounded, identity-well-formed, tidy-well-formed, join-well-formed}
 use Rattle.exact.specs.Unique.{unique}
 use Rattle.exact.specs.Theorems.{then-none, then-again, then-same, join-assoc, join-identity-left}
@@ -50,7 +51,8 @@ single-within s x =
 -- to include and exclude is to exclude, and include what is left
 included-after : (x i e : ℕ) → union (minus x e) (minus i e) ≡ minus (union x i) e
 included-after x i e =
-    as-sets (λ v. union (minus (getD v 0 0) (getD v 2 0)) (minus (getD v 1 0) (getD v 2 0))) (λ v. minus (union (getD v 0 0) (getD v 1 0)) (getD v 2 0))
+    as-sets (λ v. union (minus (getD v 0 0) (getD v 2 0)) (minus (getD v 1 0) (getD v 2 0)))
+    (λ v. minus (union (getD v 0 0) (getD v 1 0)) (getD v 2 0))
     (x ∷ i ∷ e ∷ []) (λ i. simp at-digit) (λ i. simp at-digit) refl
 
 -- a step's record gives the marking after the step
@@ -73,7 +75,10 @@ applies-step w s m = simp (single-within s (m .included), and-true)
 
 -- an entry passes exactly if none of its lines holds
 moved-by-lines : (p q r i w : Bool) (s : Step) (m next : Marking)
-    → movedTo (moveOf (cond (not p) (Verdict.Refused Unknown) (cond (not q) (Verdict.Refused NotHeld) (cond (not r) (Verdict.Refused NotOnStep) (cond (not i) (Verdict.Refused Excluded) (cond (not w) (Verdict.Refused (Waits s)) Verdict.Clear))))) m next)
+    → movedTo (moveOf (cond (not p) (Verdict.Refused Unknown)
+    (cond (not q) (Verdict.Refused NotHeld)
+    (cond (not r) (Verdict.Refused NotOnStep)
+    (cond (not i) (Verdict.Refused Excluded) (cond (not w) (Verdict.Refused (Waits s)) Verdict.Clear))))) m next)
     ≡ cond (p && q && r) (cond (i && w) (some next) none) none
 unfolding movedTo moveOf
 moved-by-lines false q r i w s m next = refl
@@ -85,10 +90,12 @@ moved-by-lines true true true true true s m next = refl
 
 -- an entry moves a marking exactly if some marking could allow it, its step is included and it waits for nothing
 pub moved-if : (g : Graph) (e : Entry) (m : Marking) → movedTo (entryMove g m e)
-    ≡ cond (possible g e) (cond (isIncluded m e && empty (waitsFor (rowAt g e .conditions) m)) (some (after (rowAt g e) m (e .step .0))) none) none
+    ≡ cond (possible g e)
+    (cond (isIncluded m e && empty (waitsFor (rowAt g e .conditions) m)) (some (after (rowAt g e) m (e .step .0))) none) none
 unfolding entryMove first
 moved-if g e m =
-    moved-by-lines (known g e) (personHolds (rowAt g e) e) (stepHas (rowAt g e) e) (isIncluded m e) (empty (waitsFor (rowAt g e .conditions) m)) _ m
+    moved-by-lines (known g e) (personHolds (rowAt g e) e) (stepHas (rowAt g e) e) (isIncluded m e)
+    (empty (waitsFor (rowAt g e .conditions) m)) _ m
     (after (rowAt g e) m (e .step .0))
 
 -- an entry's record does what the entry does
@@ -98,7 +105,8 @@ acts-entry g e m = go (possible g e) ∙ sym (moved-if g e m)
   where
     go : (p : Bool) → acts (cond p (stepRecord (rowAt g e) (e .step .0)) impossible) m
         ≡ cond p (cond (isIncluded m e && empty (waitsFor (rowAt g e .conditions) m)) (some (after (rowAt g e) m (e .step .0))) none) none
-    go true = ap₂ (λ (q : Bool) (x : Marking). cond q (some x) none) (applies-step (rowAt g e) (e .step .0) m) (gives-step (rowAt g e) (e .step .0) m)
+    go true = ap₂ (λ (q : Bool) (x : Marking). cond q (some x) none) (applies-step (rowAt g e) (e .step .0) m)
+        (gives-step (rowAt g e) (e .step .0) m)
     go false = acts-impossible m
 
 -- a test that fails leaves none of both
@@ -112,7 +120,8 @@ unfolding entryRecord
 record-unknown g e k = simp k
 
 -- in a graph with nothing against it, the roles alone say whether some marking could allow an entry
-pub record-serves : (g : Graph) (e : Entry) (p : Bool) → graphVerdict g ≡ Verdict.Clear → (personHolds (rowAt g e) e && stepHas (rowAt g e) e) ≡ p
+pub record-serves : (g : Graph) (e : Entry) (p : Bool) → graphVerdict g ≡ Verdict.Clear
+    → (personHolds (rowAt g e) e && stepHas (rowAt g e) e) ≡ p
     → entryRecord g e ≡ cond p (stepRecord (rowAt g e) (e .step .0)) impossible
 unfolding entryRecord
 record-serves g e p clear q = ap (λ (x : Bool). cond x (stepRecord (rowAt g e) (e .step .0)) impossible) (possible-serves g e clear ∙ q)
@@ -122,11 +131,13 @@ pub entry-clears : (g : Graph) (e : Entry) → entryRecord g e .dueclear ≡ ent
 unfolding entryRecord
 entry-clears g e = go (possible g e)
   where
-    go : (p : Bool) → cond p (stepRecord (rowAt g e) (e .step .0)) impossible .dueclear ≡ cond p (stepRecord (rowAt g e) (e .step .0)) impossible .done
+    go : (p : Bool) → cond p (stepRecord (rowAt g e) (e .step .0)) impossible .dueclear ≡ cond p
+        (stepRecord (rowAt g e) (e .step .0)) impossible .done
     go true = refl
     go false = refl
 
-pub compose-clears : (g : Graph) (r : Record) (e : Entry) → r .dueclear ≡ r .done → compose r (entryRecord g e) .dueclear ≡ compose r (entryRecord g e) .done
+pub compose-clears : (g : Graph) (r : Record) (e : Entry) → r .dueclear ≡ r .done
+    → compose r (entryRecord g e) .dueclear ≡ compose r (entryRecord g e) .done
 compose-clears g r e p = ap₂ union p (entry-clears g e)
 
 -- on a graph as it should be, an entry's record keeps to its steps
@@ -139,9 +150,13 @@ entry-bounded g e sound = go (possible g e) refl
 
     go : (p : Bool) → possible g e ≡ p → Bounded (g .steps) (cond p (stepRecord (rowAt g e) s) impossible)
     go true q =
-        let is : known g e ≡ true = and-left (known g e) (personHolds (rowAt g e) e) (and-left (known g e && personHolds (rowAt g e) e) (stepHas (rowAt g e) e) q) in
+        let is : known g e ≡ true =
+        and-left (known g e) (personHolds (rowAt g e) e)
+        (and-left (known g e && personHolds (rowAt g e) e) (stepHas (rowAt g e) e) q) in
         let below : s < g .steps =
-        ltb-true s (g .steps) (and-right (ltb (e .person) (g .people)) (ltb s (g .steps)) (and-left (ltb (e .person) (g .people) && ltb s (g .steps)) (ltb (e .role) (g .roles)) is)) in
+        ltb-true s (g .steps)
+        (and-right (ltb (e .person) (g .people)) (ltb s (g .steps))
+        (and-left (ltb (e .person) (g .people) && ltb s (g .steps)) (ltb (e .role) (g .roles)) is)) in
         record {
           needin-in = single-lt (g .steps) s below;
           needex-in = pow-pos (g .steps);
@@ -161,7 +176,8 @@ pub fold-well-formed : (g : Graph) (es : List Entry) → Sound g → WellFormed 
 unfolding foldOf
 fold-well-formed g [] sound = identity-well-formed (g .steps)
 fold-well-formed g (e ∷ es) sound =
-    join-well-formed (g .steps) (tidy (entryRecord g e)) (foldOf g es) (tidy-well-formed (g .steps) (entryRecord g e) (entry-bounded g e sound)) (fold-well-formed g es sound)
+    join-well-formed (g .steps) (tidy (entryRecord g e)) (foldOf g es)
+    (tidy-well-formed (g .steps) (entryRecord g e) (entry-bounded g e sound)) (fold-well-formed g es sound)
 
 -- it applies exactly when every entry is allowed in turn, and then gives the end marking
 pub acts-fold : (g : Graph) (es : List Entry) (m : Marking) → acts (foldOf g es) m ≡ passes g m es
@@ -169,7 +185,8 @@ unfolding foldOf passes
 acts-fold g [] m = acts-identity m
 acts-fold g (e ∷ es) m =
     acts-join (tidy (entryRecord g e)) (foldOf g es) m
-    ∙ ap₂ (λ (o : Option Marking) (k : Marking → Option Marking). bind o k) (acts-tidy (entryRecord g e) m ∙ acts-entry g e m) (fun-ext (acts-fold g es))
+    ∙ ap₂ (λ (o : Option Marking) (k : Marking → Option Marking). bind o k) (acts-tidy (entryRecord g e) m ∙ acts-entry g e m)
+    (fun-ext (acts-fold g es))
 
 -- the fold of one list after another is the join of their folds
 pub fold-append : (g : Graph) (a b : List Entry) → Sound g → foldOf g (a ++ b) ≡ join (foldOf g a) (foldOf g b)
@@ -177,7 +194,8 @@ unfolding foldOf
 fold-append g [] b sound = sym (join-identity-left (g .steps) (foldOf g b) (fold-well-formed g b sound))
 fold-append g (e ∷ a) b sound =
     ap (join (tidy (entryRecord g e))) (fold-append g a b sound)
-    ∙ sym (join-assoc (g .steps) (tidy (entryRecord g e)) (foldOf g a) (foldOf g b) (tidy-well-formed (g .steps) (entryRecord g e) (entry-bounded g e sound)) (fold-well-formed g a sound) (fold-well-formed g b sound))
+    ∙ sym (join-assoc (g .steps) (tidy (entryRecord g e)) (foldOf g a) (foldOf g b)
+    (tidy-well-formed (g .steps) (entryRecord g e) (entry-bounded g e sound)) (fold-well-formed g a sound) (fold-well-formed g b sound))
 
 -- going through one list and then another
 pub passes-append : (g : Graph) (a b : List Entry) (m : Marking) → passes g m (a ++ b) ≡ bind (passes g m a) (λ x. passes g x b)
@@ -201,7 +219,8 @@ compound g r (e ∷ es) = compound g (compose r (entryRecord g e)) es
 compound-bounded : (g : Graph) (r : Record) (es : List Entry) → Sound g → Bounded (g .steps) r → Bounded (g .steps) (compound g r es)
 unfolding compound
 compound-bounded g r [] sound b = b
-compound-bounded g r (e ∷ es) sound b = compound-bounded g (compose r (entryRecord g e)) es sound (compose-bounded (g .steps) r (entryRecord g e) b (entry-bounded g e sound))
+compound-bounded g r (e ∷ es) sound b =
+    compound-bounded g (compose r (entryRecord g e)) es sound (compose-bounded (g .steps) r (entryRecord g e) b (entry-bounded g e sound))
 
 acts-compound : (g : Graph) (r : Record) (es : List Entry) (m : Marking) → acts (compound g r es) m ≡ bind (acts r m) (λ x. passes g x es)
 unfolding compound passes
@@ -210,21 +229,26 @@ acts-compound g r (e ∷ es) m =
     acts-compound g (compose r (entryRecord g e)) es m
     ∙ ap (λ (o : Option Marking). bind o (λ x. passes g x es)) (acts-compose r (entryRecord g e) m)
     ∙ then-again (acts r m) (acts (entryRecord g e)) (λ x. passes g x es)
-    ∙ then-same (acts r m) (λ x. bind (acts (entryRecord g e) x) (λ y. passes g y es)) (λ x. bind (movedTo (entryMove g x e)) (λ y. passes g y es))
+    ∙ then-same (acts r m) (λ x. bind (acts (entryRecord g e) x) (λ y. passes g y es))
+    (λ x. bind (movedTo (entryMove g x e)) (λ y. passes g y es))
     (λ x. ap (λ (o : Option Marking). bind o (λ y. passes g y es)) (acts-entry g e x))
 
 -- once never, always never
 pub compound-never : (g : Graph) (r : Record) (es : List Entry) → r .never ≡ true → tidy (compound g r es) ≡ impossible
 unfolding compound tidy
 compound-never g r [] on = ap (λ (p : Bool). cond p impossible (sorted r)) on
-compound-never g r (e ∷ es) on = compound-never g (compose r (entryRecord g e)) es (ap (λ (p : Bool). p || entryRecord g e .never || not (empty (meet (entryRecord g e .needin) (minus (r .inclear) (r .inset))))) on)
+compound-never g r (e ∷ es) on =
+    compound-never g (compose r (entryRecord g e)) es
+    (ap (λ (p : Bool). p || entryRecord g e .never || not (empty (meet (entryRecord g e .needin) (minus (r .inclear) (r .inset))))) on)
 
 -- an entry that is never makes all never
-pub compound-barred : (g : Graph) (r : Record) (e : Entry) (es : List Entry) → entryRecord g e .never ≡ true → tidy (compound g r (e ∷ es)) ≡ impossible
+pub compound-barred : (g : Graph) (r : Record) (e : Entry) (es : List Entry) → entryRecord g e .never ≡ true
+    → tidy (compound g r (e ∷ es)) ≡ impossible
 unfolding compound
 compound-barred g r e es on =
     compound-never g (compose r (entryRecord g e)) es
-    (ap (λ (p : Bool). r .never || p || not (empty (meet (entryRecord g e .needin) (minus (r .inclear) (r .inset))))) on ∙ or-on (r .never) _)
+    (ap (λ (p : Bool). r .never || p || not (empty (meet (entryRecord g e .needin) (minus (r .inclear) (r .inset))))) on
+    ∙ or-on (r .never) _)
   where
     or-on : (p q : Bool) → (p || true || q) ≡ true
     or-on true q = refl
@@ -236,7 +260,8 @@ pub compound-more : (g : Graph) (r : Record) (j : List ℕ) (k : ℕ) → 3 * k 
 unfolding compound
 compound-more g r j k h =
     ap (compound g r) (entries-from j k h)
-    ∙ ap (λ (x : ℕ). compound g (compose r (entryRecord g (entryAt j k))) (entries (drop x j))) (let z : 3 * k + 3 ≡ 3 * (k + 1) = omega arith in z)
+    ∙ ap (λ (x : ℕ). compound g (compose r (entryRecord g (entryAt j k))) (entries (drop x j)))
+    (let z : 3 * k + 3 ≡ 3 * (k + 1) = omega arith in z)
 
 -- there is none
 pub compound-ended : (g : Graph) (r : Record) (j : List ℕ) (k : ℕ) → length j ≤ 3 * k → compound g r (entries (drop (3 * k) j)) ≡ r
@@ -250,11 +275,13 @@ tidy-compound g es sound =
     unique (g .steps) (tidy (compound g identity es)) (foldOf g es)
     (tidy-well-formed (g .steps) (compound g identity es) (compound-bounded g identity es sound (identity-well-formed (g .steps) .bounded)))
     (fold-well-formed g es sound)
-    (λ m h. acts-tidy (compound g identity es) m ∙ acts-compound g identity es m ∙ ap (λ (o : Option Marking). bind o (λ x. passes g x es)) (acts-identity m) ∙ sym (acts-fold g es m))
+    (λ m h. acts-tidy (compound g identity es) m ∙ acts-compound g identity es m
+    ∙ ap (λ (o : Option Marking). bind o (λ x. passes g x es)) (acts-identity m) ∙ sym (acts-fold g es m))
 
 -- ---- a fold, entry by entry
 
-module _ (g : Graph) (j : List ℕ) (k : ℕ) (r : Record) (sound : Sound g) (so-far : compound g identity (entries j) ≡ compound g r (entries (drop (3 * k) j))) where
+module _ (g : Graph) (j : List ℕ) (k : ℕ) (r : Record) (sound : Sound g)
+    (so-far : compound g identity (entries j) ≡ compound g r (entries (drop (3 * k) j))) where
   -- entry k is one that no marking could allow
   pub fold-barred : 3 * k + 3 ≤ length j → entryRecord g (entryAt j k) .never ≡ true → foldOf g (entries j) ≡ impossible
   fold-barred h on =
@@ -287,7 +314,8 @@ gives-effect g (e ∷ es) m =
 -- what they do, done twice, is what they do once
 pub after-twice : (g : Graph) (es : List Entry) (m : Marking) → afterAll g (afterAll g m es) es ≡ afterAll g m es
 after-twice g es m =
-    sym (gives-effect g es (afterAll g m es)) ∙ ap (gives (effect g es)) (sym (gives-effect g es m)) ∙ gives-again (effect g es) m ∙ gives-effect g es m
+    sym (gives-effect g es (afterAll g m es)) ∙ ap (gives (effect g es)) (sym (gives-effect g es m)) ∙ gives-again (effect g es) m
+    ∙ gives-effect g es m
 
 moved-is : (v : Verdict) (m next x : Marking) → moveOf v m next ≡ Move.Moved x → x ≡ next
 unfolding moveOf
@@ -300,7 +328,9 @@ unfolding passes afterAll bind movedTo entryMove
 passes-after g [] m x e = sym (Option·some-injective m x e)
 passes-after g (e ∷ es) m x p = go (entryMove g m e) refl (passes-after g es) p
   where
-    go : (o : Move) → entryMove g m e ≡ o → ((m x : Marking) → passes g m es ≡ some x → x ≡ afterAll g m es) → bind (movedTo o) (λ next. passes g next es) ≡ some x
+    go : (o : Move) → entryMove g m e ≡ o → ((m x : Marking) → passes g m es ≡ some x → x ≡ afterAll g m es)
+        → bind (movedTo o) (λ next. passes g next es) ≡ some x
         → x ≡ afterAll g (after (rowAt g e) m (e .step .0)) es
-    go (Move.Moved next) q rest p = rest next x p ∙ ap (λ (n : Marking). afterAll g n es) (moved-is (first (entryLines g m e)) m (after (rowAt g e) m (e .step .0)) next q)
+    go (Move.Moved next) q rest p = rest next x p
+        ∙ ap (λ (n : Marking). afterAll g n es) (moved-is (first (entryLines g m e)) m (after (rowAt g e) m (e .step .0)) next q)
     go (Move.Refused r back) q rest p = absurd (Option·none-ne-some x p)

@@ -17,7 +17,8 @@ use Rattle.tables.specs.Laws.{named-below}
 use Rattle.folding.specs.Fold.{rowAt, possible}
 
 -- an entry is possible exactly if its person holds the role and its step has it
-pub possible-serves : (g : Graph) (e : Entry) → graphVerdict g ≡ Verdict.Clear → possible g e ≡ (personHolds (rowAt g e) e && stepHas (rowAt g e) e)
+pub possible-serves : (g : Graph) (e : Entry) → graphVerdict g ≡ Verdict.Clear
+    → possible g e ≡ (personHolds (rowAt g e) e && stepHas (rowAt g e) e)
 unfolding setsFit
 possible-serves g e clear =
     same-truth (possible g e) (held && has-it)
@@ -48,4 +49,5 @@ possible-serves g e clear =
         (and-intro
         (lt-ltb (e .person) (g .people) (named-below (g .people) (g .roles) (g .holds) (and-right a h roles) (e .person) (e .role) p))
         (lt-ltb (e .step .0) (g .steps) (named-below (g .steps) (g .roles) (g .allows) (and-left a h roles) (e .step .0) (e .role) q)))
-        (lt-ltb (e .role) (g .roles) (member-below (g .roles) (rolesHeld g (e .person)) (e .role) (clear-sound g clear .rolesHeld-in (e .person)) p))
+        (lt-ltb (e .role) (g .roles)
+        (member-below (g .roles) (rolesHeld g (e .person)) (e .role) (clear-sound g clear .rolesHeld-in (e .person)) p))

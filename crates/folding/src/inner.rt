@@ -9,13 +9,13 @@ ghost use Rattle.moves.specs.declared.Verdict.{Verdict};
 ghost use Rattle.journal.specs.Journal.{entries};
 ghost use Rattle.folding.specs.Fold.{stepRecord, entryRecord, foldOf};
 use journal::inner::entry_at;
+use moves::Entry;
+use moves::inner::Row;
 use records::Record;
 use records::inner::NEVER;
 use records::inner::composed;
 use records::inner::tidied;
-use moves::Entry;
 use rules::Job;
-use moves::inner::Row;
 use rules::inner::row_at;
 
 // May the entry's role take the step, if its person holds it?

@@ -5,6 +5,9 @@ ghost use Rattle.folding.specs.Answers.{theFold, theRestoring};
 use crate::inner::fold_entries;
 use journal::Ran;
 use journal::inner::length_fits;
+use moves::Marking;
+use moves::Refusal;
+use moves::Verdict;
 use records::Record;
 use records::Recorded;
 use records::inner::NONE;
@@ -12,9 +15,6 @@ use records::inner::given;
 use records::inner::suits;
 use records::inner::well_formed;
 use rules::Job;
-use moves::Marking;
-use moves::Refusal;
-use moves::Verdict;
 
 pub mod inner;
 

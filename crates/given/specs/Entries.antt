@@ -49,12 +49,14 @@ module _ (g : Graph) (m : Marking) (j : List ℕ) where
 
   -- restore: 2, 4, 6, 7, 8, 10, then 16, then the entries
   pub restore-exactly : (r : Record)
-      → TableFirst (restoreLines g r j m) (theRestoring g r j m) (cond (applies r m) (runFrom g (gives r m) 0 (entries j)) (Ran.Stopped 0 NotApplied m))
+      → TableFirst (restoreLines g r j m) (theRestoring g r j m)
+      (cond (applies r m) (runFrom g (gives r m) 0 (entries j)) (Ran.Stopped 0 NotApplied m))
   unfolding ascends numberOf theRestoring
   restore-exactly r = table-first (restoreLines g r j m) _ refl
 
 -- lap: 2, 4, 6, 7, 8, 17, then the entries. An answer that satisfies the relation has the table's number where one of them holds
-pub lap-exactly : (g : Graph) (m : Marking) (stem lap : List ℕ) (o : Lapped) → LapAnswer g m stem lap o → 0 < number (first (lapLines g m stem lap))
+pub lap-exactly : (g : Graph) (m : Marking) (stem lap : List ℕ) (o : Lapped) → LapAnswer g m stem lap o
+    → 0 < number (first (lapLines g m stem lap))
     → Exactly (numberOfLap o) (lapLines g m stem lap)
 unfolding ascends numberOf numberOfLap LapAnswer number
 lap-exactly g m stem lap o a h = exactly (lapLines g m stem lap) (numberOfLap o) refl (same o a)

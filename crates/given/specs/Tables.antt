@@ -101,7 +101,8 @@ handed-number k (e ∷ rest) = refl
 
 pub walk-exactly : (j : List ℕ) (k : ℕ) → Exactly (numberOfWalked (strideAt j k .said)) (lengthLines j)
 unfolding ascends numberOf strideAt
-walk-exactly j k = exactly (lengthLines j) (numberOfWalked (strideAt j k .said)) refl (walked-number k (first (lengthLines j)) _ (handed-number k _))
+walk-exactly j k = exactly (lengthLines j) (numberOfWalked (strideAt j k .said)) refl
+    (walked-number k (first (lengthLines j)) _ (handed-number k _))
 
 module _ (n : ℕ) where
   -- join: 2, 10
@@ -112,7 +113,8 @@ module _ (n : ℕ) where
   -- apply: 2, 8, 10, 16
   pub apply-exactly : (r : Record) (m : Marking) → Exactly (numberOfApplied (theApplication n r m)) (applyLines n r m)
   unfolding ascends numberOf theApplication
-  apply-exactly r m = exactly (applyLines n r m) (numberOfApplied (theApplication n r m)) refl (number-applied (first (applyLines n r m)) m _)
+  apply-exactly r m = exactly (applyLines n r m) (numberOfApplied (theApplication n r m)) refl
+      (number-applied (first (applyLines n r m)) m _)
 
   -- a record from its bytes: 2, 10
   pub read-exactly : (s : List ℕ) → Exactly (numberOfRecorded (theReading n s)) (readLines n s)

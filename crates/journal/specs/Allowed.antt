@@ -51,7 +51,8 @@ unfolding nothingIn first
 something-refused [] e = absurd (true≢false e)
 something-refused (l ∷ a) e = go (l .1) refl (something-refused a)
   where
-    go : (b : Bool) → l .1 ≡ b → (nothingIn a ≡ false → (r : Refusal) × (first a ≡ Verdict.Refused r)) → (r : Refusal) × (cond (l .1) (Verdict.Refused (l .0)) (first a) ≡ Verdict.Refused r)
+    go : (b : Bool) → l .1 ≡ b → (nothingIn a ≡ false → (r : Refusal) × (first a ≡ Verdict.Refused r)) → (r : Refusal)
+        × (cond (l .1) (Verdict.Refused (l .0)) (first a) ≡ Verdict.Refused r)
     go true p rest = (l .0, ap (λ (b : Bool). cond b (Verdict.Refused (l .0)) (first a)) p)
     go false p rest =
         let later = rest (ap (λ (b : Bool). not b && nothingIn a) (sym p) ∙ e) in
@@ -60,9 +61,11 @@ something-refused (l ∷ a) e = go (l .1) refl (something-refused a)
 pub allowed-moved : (g : Graph) (m : Marking) (e : Entry) → isAllowed g m e ≡ true
     → entryMove g m e ≡ Move.Moved (after (rowOf g (e .person) (e .step .0)) m (e .step .0))
 unfolding entryMove moveOf
-allowed-moved g m e ok = ap (λ (v : Verdict). moveOf v m (after (rowOf g (e .person) (e .step .0)) m (e .step .0))) (nothing-clear (entryLines g m e) ok)
+allowed-moved g m e ok =
+    ap (λ (v : Verdict). moveOf v m (after (rowOf g (e .person) (e .step .0)) m (e .step .0))) (nothing-clear (entryLines g m e) ok)
 
-pub refused-moved : (g : Graph) (m : Marking) (e : Entry) → isAllowed g m e ≡ false → (r : Refusal) × (back : Marking) × (entryMove g m e ≡ Move.Refused r back)
+pub refused-moved : (g : Graph) (m : Marking) (e : Entry) → isAllowed g m e ≡ false → (r : Refusal) × (back : Marking)
+    × (entryMove g m e ≡ Move.Refused r back)
 unfolding entryMove moveOf
 refused-moved g m e out =
     let f = something-refused (entryLines g m e) out in
@@ -70,7 +73,8 @@ refused-moved g m e out =
 
 -- ---- its five tests
 
-parts : (a b c d w : Bool) → (not (not a) && (not (not b) && (not (not c) && (not (not d) && (not (not w) && true))))) ≡ (a && (b && (c && (d && w))))
+parts : (a b c d w : Bool)
+    → (not (not a) && (not (not b) && (not (not c) && (not (not d) && (not (not w) && true))))) ≡ (a && (b && (c && (d && w))))
 parts false b c d w = refl
 parts true false c d w = refl
 parts true true false d w = refl
@@ -82,9 +86,11 @@ abbrev noneWaits : Graph → Marking → Entry → Bool
 noneWaits g m e = empty (waitsFor (rowOf g (e .person) (e .step .0) .conditions) m)
 
 allowed-parts : (g : Graph) (m : Marking) (e : Entry)
-    → isAllowed g m e ≡ (known g e && (has (rolesHeld g (e .person)) (e .role) && (has (rolesOf g (e .step .0)) (e .role) && (isIncluded m e && noneWaits g m e))))
+    → isAllowed g m e ≡ (known g e
+    && (has (rolesHeld g (e .person)) (e .role) && (has (rolesOf g (e .step .0)) (e .role) && (isIncluded m e && noneWaits g m e))))
 unfolding nothingIn
-allowed-parts g m e = parts (known g e) (has (rolesHeld g (e .person)) (e .role)) (has (rolesOf g (e .step .0)) (e .role)) (isIncluded m e) (noneWaits g m e)
+allowed-parts g m e =
+    parts (known g e) (has (rolesHeld g (e .person)) (e .role)) (has (rolesOf g (e .step .0)) (e .role)) (isIncluded m e) (noneWaits g m e)
 
 is-not : (b : Bool) → (b ≡ true → ⊥) → b ≡ false
 is-not true h = absurd (h refl)
@@ -113,12 +119,14 @@ allowed-named g m e ok = known-named g e (and-left (known g e) _ (sym (allowed-p
 -- ---- the tests of a run, on a graph with nothing against it
 
 -- a person or a role from 16 on is unknown
-pub unknown-person-role : (g : Graph) (m : Marking) (e : Entry) → graphVerdict g ≡ Verdict.Clear → 16 ≤ bitOr (e .person) (e .role) → isAllowed g m e ≡ false
+pub unknown-person-role : (g : Graph) (m : Marking) (e : Entry) → graphVerdict g ≡ Verdict.Clear → 16 ≤ bitOr (e .person) (e .role)
+    → isAllowed g m e ≡ false
 unknown-person-role g m e clear h =
     is-not (isAllowed g m e) (λ ok.
     let n : Named g e = allowed-named g m e ok in
     let b : Counted (g .steps) (g .people) (g .roles) = clear-counts g clear in
-    let small : bitOr (e .person) (e .role) < 2 ^ 4 = or-lt 4 (e .person) (e .role) (let z : e .person < 16 = omega arith in z) (let z : e .role < 16 = omega arith in z) in
+    let small : bitOr (e .person) (e .role) < 2 ^ 4 =
+    or-lt 4 (e .person) (e .role) (let z : e .person < 16 = omega arith in z) (let z : e .role < 16 = omega arith in z) in
     let w : ⊥ = omega arith in w)
 
 -- a step from 64 on is unknown
@@ -130,13 +138,15 @@ unknown-step g m e clear h =
     let w : ⊥ = omega arith in w)
 
 -- the role is one that the person holds and the step has
-pub without-role : (g : Graph) (m : Marking) (e : Entry) → has (meet (rolesHeld g (e .person)) (rolesOf g (e .step .0))) (e .role) ≡ false → isAllowed g m e ≡ false
+pub without-role : (g : Graph) (m : Marking) (e : Entry) → has (meet (rolesHeld g (e .person)) (rolesOf g (e .step .0))) (e .role) ≡ false
+    → isAllowed g m e ≡ false
 without-role g m e out =
     is-not (isAllowed g m e) (λ ok.
     let p = has (rolesHeld g (e .person)) (e .role) in
     let s = has (rolesOf g (e .step .0)) (e .role) in
     let rest : (p && (s && (isIncluded m e && noneWaits g m e))) ≡ true = and-right (known g e) _ (sym (allowed-parts g m e) ∙ ok) in
-    true≢false (sym (and-intro (and-left p _ rest) (and-left s _ (and-right p _ rest))) ∙ sym (has-meet (rolesHeld g (e .person)) (rolesOf g (e .step .0)) (e .role)) ∙ out))
+    true≢false (sym (and-intro (and-left p _ rest) (and-left s _ (and-right p _ rest)))
+    ∙ sym (has-meet (rolesHeld g (e .person)) (rolesOf g (e .step .0)) (e .role)) ∙ out))
 
 pub not-included : (g : Graph) (m : Marking) (e : Entry) → isIncluded m e ≡ false → isAllowed g m e ≡ false
 not-included g m e out =
@@ -153,7 +163,9 @@ keeps-beyond count limit table e i h = go (decLt i (length table))
   where
     go : Dec (i < length table) → row table i ≡ 0
     go (yes l) =
-        let here : row table i < 2 ^ cond (ltb i count) limit 0 = ltb-true (row table i) (2 ^ cond (ltb i count) limit 0) (every-at (length table) (λ k. within (cond (ltb k count) limit 0) (row table k)) e i l) in
+        let here : row table i < 2 ^ cond (ltb i count) limit 0 =
+        ltb-true (row table i) (2 ^ cond (ltb i count) limit 0)
+        (every-at (length table) (λ k. within (cond (ltb k count) limit 0) (row table k)) e i l) in
         let bare : row table i < 2 ^ 0 = subst (λ (b : Bool). row table i < 2 ^ cond b limit 0) (le-ltb i count h) here in
         omega arith
     go (no l) = List·getD-eq-default table 0 (let z : length table ≤ i = omega arith in z)
@@ -183,7 +195,8 @@ role-left g m e clear both included =
     had = and-right p s (sym (has-meet (rolesHeld g (e .person)) (rolesOf g (e .step .0)) (e .role)) ∙ both)
 
     fit : rolesFit (g .steps) (g .people) (g .roles) (g .allows) (g .holds) ≡ true
-    fit = and-left (rolesFit (g .steps) (g .people) (g .roles) (g .allows) (g .holds)) _ (not-false (setsFit g) (clear-head _ _ (clear-tail _ _ clear)))
+    fit = and-left (rolesFit (g .steps) (g .people) (g .roles) (g .allows) (g .holds)) _
+        (not-false (setsFit g) (clear-head _ _ (clear-tail _ _ clear)))
 
     -- a set with a role in it is not empty
     some : (x y : ℕ) → has x y ≡ true → x ≡ 0 → ⊥
@@ -200,6 +213,12 @@ role-left g m e clear both included =
     named =
         and-intro
         (and-intro
-        (below (e .person) (g .people) (λ h. some (rolesHeld g (e .person)) (e .role) held (keeps-beyond (g .people) (g .roles) (g .holds) (and-right (keeps (g .steps) (g .roles) (g .allows)) _ fit) (e .person) h)))
-        (below (e .step .0) (g .steps) (λ h. some (rolesOf g (e .step .0)) (e .role) had (keeps-beyond (g .steps) (g .roles) (g .allows) (and-left (keeps (g .steps) (g .roles) (g .allows)) _ fit) (e .step .0) h))))
-        (below (e .role) (g .roles) (λ h. true≢false (sym held ∙ has-above (g .roles) (rolesHeld g (e .person)) (e .role) (clear-sound g clear .rolesHeld-in (e .person)) h)))
+        (below (e .person) (g .people)
+        (λ h. some (rolesHeld g (e .person)) (e .role) held
+        (keeps-beyond (g .people) (g .roles) (g .holds) (and-right (keeps (g .steps) (g .roles) (g .allows)) _ fit) (e .person) h)))
+        (below (e .step .0) (g .steps)
+        (λ h. some (rolesOf g (e .step .0)) (e .role) had
+        (keeps-beyond (g .steps) (g .roles) (g .allows) (and-left (keeps (g .steps) (g .roles) (g .allows)) _ fit) (e .step .0) h))))
+        (below (e .role) (g .roles)
+        (λ h. true≢false (sym held
+        ∙ has-above (g .roles) (rolesHeld g (e .person)) (e .role) (clear-sound g clear .rolesHeld-in (e .person)) h)))

@@ -22,14 +22,16 @@ runOn g m k [] = Ran.Ended m k
 runOn g m k (e ∷ rest) = goOn k m (entryMove g m e) (λ next. runOn g next (k + 1) rest)
 
 -- an allowed entry keeps the marking within the graph, so that graph and marking need not be tested again
-pub run-from : (g : Graph) (m : Marking) (k : ℕ) (es : List Entry) → graphVerdict g ≡ Verdict.Clear → Inside (g .steps) m → runFrom g m k es ≡ runOn g m k es
+pub run-from : (g : Graph) (m : Marking) (k : ℕ) (es : List Entry) → graphVerdict g ≡ Verdict.Clear → Inside (g .steps) m
+    → runFrom g m k es ≡ runOn g m k es
 unfolding runFrom runOn goOn
 run-from g m k [] clear i = refl
 run-from g m k (e ∷ rest) clear i =
     ap (λ (o : Move). goOn k m o (λ next. runFrom g next (k + 1) rest)) (move-inside g m e clear (inside-fits (g .steps) m i))
     ∙ go (entryMove g m e) refl (λ next. run-from g next (k + 1) rest clear)
   where
-    go : (o : Move) → entryMove g m e ≡ o → ((next : Marking) → Inside (g .steps) next → runFrom g next (k + 1) rest ≡ runOn g next (k + 1) rest)
+    go : (o : Move) → entryMove g m e ≡ o
+        → ((next : Marking) → Inside (g .steps) next → runFrom g next (k + 1) rest ≡ runOn g next (k + 1) rest)
         → goOn k m o (λ next. runFrom g next (k + 1) rest) ≡ goOn k m o (λ next. runOn g next (k + 1) rest)
     go (Move.Moved next) q more = more next (entry-inside g m next e (clear-sound g clear) i q)
     go (Move.Refused r back) q more = refl

@@ -93,7 +93,9 @@ entries-from j k h =
     let b : suc (3 * k) ≡ 3 * k + 1 = omega arith in
     let c : suc (suc (3 * k)) ≡ 3 * k + 2 = omega arith in
     let d : suc (suc (suc (3 * k))) ≡ 3 * k + 3 = omega arith in
-    ap entries (drop-cons j (3 * k) 0 one ∙ ap (λ (t : List ℕ). getD j (3 * k) 0 ∷ t) (drop-cons j (suc (3 * k)) 0 two ∙ ap (λ (t : List ℕ). getD j (suc (3 * k)) 0 ∷ t) (drop-cons j (suc (suc (3 * k))) 0 three)))
+    ap entries (drop-cons j (3 * k) 0 one
+    ∙ ap (λ (t : List ℕ). getD j (3 * k) 0 ∷ t)
+    (drop-cons j (suc (3 * k)) 0 two ∙ ap (λ (t : List ℕ). getD j (suc (3 * k)) 0 ∷ t) (drop-cons j (suc (suc (3 * k))) 0 three)))
     ∙ ap (λ (x : ℕ). entryOf (getD j (3 * k) 0) (getD j x 0) (getD j (suc (suc (3 * k))) 0) ∷ entries (drop (suc (suc (suc (3 * k)))) j)) b
     ∙ ap (λ (x : ℕ). entryOf (getD j (3 * k) 0) (getD j (3 * k + 1) 0) (getD j x 0) ∷ entries (drop (suc (suc (suc (3 * k)))) j)) c
     ∙ ap (λ (x : ℕ). entryAt j k ∷ entries (drop x j)) d
@@ -113,7 +115,8 @@ entries-drop (p ∷ s ∷ r ∷ rest) (suc k) h =
 -- ---- a run, entry by entry
 
 -- entry k of the journal is not allowed: the run stops there
-pub run-refused : (g : Graph) (m back : Marking) (r : Refusal) (j : List ℕ) (k : ℕ) → 3 * k + 3 ≤ length j → entryMove g m (entryAt j k) ≡ Move.Refused r back
+pub run-refused : (g : Graph) (m back : Marking) (r : Refusal) (j : List ℕ) (k : ℕ) → 3 * k + 3 ≤ length j
+    → entryMove g m (entryAt j k) ≡ Move.Refused r back
     → runOn g m k (entries (drop (3 * k) j)) ≡ Ran.Stopped k r m
 unfolding runOn goOn
 run-refused g m back r j k h e =
@@ -144,17 +147,21 @@ run-ended g m j k h = ap (λ (t : List ℕ). runOn g m k (entries t)) (drop-of-l
 
 -- ---- a run, by what is found of the graph, the journal and the marking
 
-pub run-graph : (g : Graph) (m : Marking) (j : List ℕ) (r : Refusal) → graphVerdict g ≡ Verdict.Refused r → theRun g m j ≡ Ran.Stopped 0 r noMarking
+pub run-graph : (g : Graph) (m : Marking) (j : List ℕ) (r : Refusal) → graphVerdict g ≡ Verdict.Refused r
+    → theRun g m j ≡ Ran.Stopped 0 r noMarking
 unfolding theRun runOf
-run-graph g m j r e = ap (λ (v : Verdict). runOf v (runFrom g m 0 (entries j))) (first-refused (graphLines g) (lengthLines j ++ markingLines g m) r e)
+run-graph g m j r e =
+    ap (λ (v : Verdict). runOf v (runFrom g m 0 (entries j))) (first-refused (graphLines g) (lengthLines j ++ markingLines g m) r e)
 
-pub run-length : (g : Graph) (m : Marking) (j : List ℕ) → graphVerdict g ≡ Verdict.Clear → lengthFits j ≡ false → theRun g m j ≡ Ran.Stopped 0 Length noMarking
+pub run-length : (g : Graph) (m : Marking) (j : List ℕ) → graphVerdict g ≡ Verdict.Clear → lengthFits j ≡ false
+    → theRun g m j ≡ Ran.Stopped 0 Length noMarking
 unfolding theRun runOf first
 run-length g m j e f =
     ap (λ (v : Verdict). runOf v (runFrom g m 0 (entries j))) (first-clear (graphLines g) (lengthLines j ++ markingLines g m) e
     ∙ ap (λ (b : Bool). cond (not b) (Verdict.Refused Length) (first (markingLines g m))) f)
 
-pub run-outside : (g : Graph) (m : Marking) (j : List ℕ) → graphVerdict g ≡ Verdict.Clear → lengthFits j ≡ true → markingFits (g .steps) m ≡ false
+pub run-outside : (g : Graph) (m : Marking) (j : List ℕ) → graphVerdict g ≡ Verdict.Clear → lengthFits j ≡ true
+    → markingFits (g .steps) m ≡ false
     → theRun g m j ≡ Ran.Stopped 0 Outside noMarking
 unfolding theRun runOf first
 run-outside g m j e f o =
@@ -162,7 +169,8 @@ run-outside g m j e f o =
     ∙ ap (λ (b : Bool). cond (not b) (Verdict.Refused Length) (first (markingLines g m))) f
     ∙ ap (λ (b : Bool). cond (not b) (Verdict.Refused Outside) Verdict.Clear) o)
 
-pub run-clear : (g : Graph) (m : Marking) (j : List ℕ) → graphVerdict g ≡ Verdict.Clear → lengthFits j ≡ true → markingFits (g .steps) m ≡ true
+pub run-clear : (g : Graph) (m : Marking) (j : List ℕ) → graphVerdict g ≡ Verdict.Clear → lengthFits j ≡ true
+    → markingFits (g .steps) m ≡ true
     → theRun g m j ≡ runFrom g m 0 (entries j)
 unfolding theRun runOf first
 run-clear g m j e f i =
@@ -170,7 +178,8 @@ run-clear g m j e f i =
     ∙ ap (λ (b : Bool). cond (not b) (Verdict.Refused Length) (first (markingLines g m))) f
     ∙ ap (λ (b : Bool). cond (not b) (Verdict.Refused Outside) Verdict.Clear) i)
 
-pub run-inside : (g : Graph) (m : Marking) (j : List ℕ) → graphVerdict g ≡ Verdict.Clear → lengthFits j ≡ true → markingFits (g .steps) m ≡ true
+pub run-inside : (g : Graph) (m : Marking) (j : List ℕ) → graphVerdict g ≡ Verdict.Clear → lengthFits j ≡ true
+    → markingFits (g .steps) m ≡ true
     → theRun g m j ≡ runOn g m 0 (entries j)
 run-inside g m j e f i = run-clear g m j e f i ∙ run-from g m 0 (entries j) e (fits-inside (g .steps) m i)
 
@@ -184,7 +193,8 @@ pub walk-length : (j : List ℕ) (k : ℕ) → lengthFits j ≡ false → stride
 unfolding strideAt strideOf first
 walk-length j k f = ap (λ (b : Bool). strideOf k (cond (not b) (Verdict.Refused Length) Verdict.Clear) (handOut k (drop k (entries j)))) f
 
-pub walk-entry : (j : List ℕ) (k : ℕ) → lengthFits j ≡ true → 3 * k + 3 ≤ length j → strideAt j k ≡ record { said = Walked.At (entryAt j k); place = k + 1 }
+pub walk-entry : (j : List ℕ) (k : ℕ) → lengthFits j ≡ true → 3 * k + 3 ≤ length j
+    → strideAt j k ≡ record { said = Walked.At (entryAt j k); place = k + 1 }
 unfolding handOut
 walk-entry j k f h =
     let room : 3 * k ≤ length j = omega arith in

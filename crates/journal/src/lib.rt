@@ -6,11 +6,11 @@ ghost use Rattle.journal.specs.Walk.{strideAt};
 use crate::inner::length_fits;
 use crate::quick::run_entries;
 use moves::Entry;
-use rules::Job;
 use moves::Marking;
 use moves::NONE;
 use moves::Refusal;
 use moves::Verdict;
+use rules::Job;
 
 pub mod inner;
 pub mod quick;

@@ -15,13 +15,13 @@ ghost use Rattle.journal.specs.Singles.{Singles};
 use crate::Ran;
 use crate::inner::entry_at;
 use moves::Entry;
-use rules::Job;
 use moves::Marking;
 use moves::Move;
-use rules::inner::enter;
 use moves::inner::moved;
-use rules::inner::row_at;
 use moves::inner::waits;
+use rules::Job;
+use rules::inner::enter;
+use rules::inner::row_at;
 
 // The sets with one step each. A test by a look into this table is quicker than one by a shift, since the compiler shares a shift
 // with the move after the test and then does both in more instructions.

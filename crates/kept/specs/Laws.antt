@@ -15,7 +15,8 @@ unfolding theKept
 kept-answer g m e = refl
 
 -- an allowed entry alters it
-pub kept-moved : (g : Graph) (m next : Marking) (e : Entry) → theMove g m e ≡ Move.Moved next → theKept g m e ≡ record { answer = Move.Moved next; marking = next }
+pub kept-moved : (g : Graph) (m next : Marking) (e : Entry) → theMove g m e ≡ Move.Moved next
+    → theKept g m e ≡ record { answer = Move.Moved next; marking = next }
 unfolding theKept keptBy
 kept-moved g m next e q = ap (λ (o : Move). record { answer = o; marking = keptBy m o }) q
 

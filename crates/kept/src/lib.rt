@@ -3,9 +3,9 @@ ghost use mathlib.Core.Path.{_≡_};
 ghost use Rattle.rules.specs.Graph.{graphOf};
 ghost use Rattle.kept.specs.Keep.{theKept};
 use moves::Entry;
-use rules::Job;
 use moves::Marking;
 use moves::Move;
+use rules::Job;
 
 // The answer of the move, and the marking that lies there then.
 pub struct Kept {

@@ -39,7 +39,8 @@ module _ (g : Graph) (m : Marking) (e : ℕ → Entry) where
   unfolding entryMove moveOf markingAt
   run-moves i q = ap (λ (v : Verdict). moveOf v (markingAt g m e i) (markingAt g m e (suc i))) q
 
-  run-refuses : (i : ℕ) (r : Refusal) → verdictAt i ≡ Verdict.Refused r → entryMove g (markingAt g m e i) (e i) ≡ Move.Refused r (markingAt g m e i)
+  run-refuses : (i : ℕ) (r : Refusal) → verdictAt i ≡ Verdict.Refused r
+      → entryMove g (markingAt g m e i) (e i) ≡ Move.Refused r (markingAt g m e i)
   unfolding entryMove moveOf markingAt ascends numberOf
   run-refuses i r q =
       ap (λ (v : Verdict). moveOf v (markingAt g m e i) (markingAt g m e (suc i))) q
@@ -68,5 +69,6 @@ module _ (g : Graph) (m : Marking) (e : ℕ → Entry) where
     pub moves-at : (i : ℕ) → UnbarredUntil i → verdictAt i ≡ Verdict.Clear → TakenAt g m e i
     moves-at i all q = by-entry i all ∙ run-moves i q
 
-    pub refuses-at : (i : ℕ) (r : Refusal) → UnbarredUntil i → verdictAt i ≡ Verdict.Refused r → movedAt g m e i ≡ Move.Refused r (markingAt g m e i)
+    pub refuses-at : (i : ℕ) (r : Refusal) → UnbarredUntil i → verdictAt i ≡ Verdict.Refused r
+        → movedAt g m e i ≡ Move.Refused r (markingAt g m e i)
     refuses-at i r all q = by-entry i all ∙ run-refuses i r q

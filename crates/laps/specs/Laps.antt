@@ -95,7 +95,8 @@ pub record Stops (g : Graph) (m : Marking) (stem lap : List Entry) (k : ℕ) (p 
 -- point on is due, included, and neither done nor excluded." Before any entry is looked at, the table
 unfoldable pub LapAnswer : Graph → Marking → List ℕ → List ℕ → Lapped → Type 0
 LapAnswer g m stem lap (Lapped.Refused r) = first (lapLines g m stem lap) ≡ Verdict.Refused r
-LapAnswer g m stem lap (Lapped.Stopped k p r) = (first (lapLines g m stem lap) ≡ Verdict.Clear) × Stops g m (entries stem) (entries lap) k p r
+LapAnswer g m stem lap (Lapped.Stopped k p r) = (first (lapLines g m stem lap) ≡ Verdict.Clear)
+    × Stops g m (entries stem) (entries lap) k p r
 LapAnswer g m stem lap Lapped.Accepted =
     (first (lapLines g m stem lap) ≡ Verdict.Clear)
     × GoesOn g m (runOf (entries stem) (entries lap))

@@ -42,7 +42,8 @@ module _ (g : Graph) (m : Marking) (e : ℕ → Entry) where
       go (no h) (yes k) = taken-refused j q (a .before j k) (b .here)
       go (no h) (no k) =
           let same : i ≡ j = omega arith in
-          let both : Move.Refused r (markingAt g m e i) ≡ Move.Refused q (markingAt g m e j) = sym (a .here) ∙ ap (movedAt g m e) same ∙ b .here in
+          let both : Move.Refused r (markingAt g m e i) ≡ Move.Refused q (markingAt g m e j) = sym (a .here) ∙ ap (movedAt g m e) same
+          ∙ b .here in
           (same, cc)
 
   one-starved : (s t : Step) → Starves g m e (s .0) → Starves g m e (t .0) → Lapped.Starved s ≡ Lapped.Starved t
@@ -106,7 +107,8 @@ module _ (g : Graph) (m : Marking) (stem lap : List ℕ) where
 
   -- ---- there is only one answer
 
-  one-stop : (k j : ℕ) (p q : Pass) (r t : Refusal) → Stops g m S L k p r → Stops g m S L j q t → Lapped.Stopped k p r ≡ Lapped.Stopped j q t
+  one-stop : (k j : ℕ) (p q : Pass) (r t : Refusal) → Stops g m S L k p r → Stops g m S L j q t
+      → Lapped.Stopped k p r ≡ Lapped.Stopped j q t
   one-stop k j p q r t a b =
       let at = one-position g m e (a .position) (b .position) r t (a .refused) (b .refused) in
       let index : k ≡ j = a .index ∙ ap (indexAt S L) (at .0) ∙ sym (b .index) in

@@ -59,7 +59,8 @@ still-gone x m s t h e =
     go (one-fails (has (m .due) t) (has (m .included) t) (eqb s t)
     (ap (λ (p : Bool). ((has (m .due) t && has (m .included) t) && p) && not (eqb s t)) (sym h) ∙ sym (has-still x m s t) ∙ e))
   where
-    go : (has (m .due) t ≡ false) ⊎ ((eqb s t ≡ true) ⊎ (has (m .included) t ≡ false)) → (has (m .due) t ≡ false) ⊎ ((t ≡ s) ⊎ (has (m .included) t ≡ false))
+    go : (has (m .due) t ≡ false) ⊎ ((eqb s t ≡ true) ⊎ (has (m .included) t ≡ false)) → (has (m .due) t ≡ false)
+        ⊎ ((t ≡ s) ⊎ (has (m .included) t ≡ false))
     go (inl p) = inl p
     go (inr (inl p)) = inr (inl (sym (eqb-true s t p)))
     go (inr (inr p)) = inr (inr p)
@@ -82,13 +83,15 @@ chunk e zero i = []
 chunk e (suc n) i = e i ∷ chunk e n (suc i)
 
 -- entries that stand at those positions
-pub chunk-is : (e : ℕ → Entry) (d : Entry) (xs : List Entry) (i : ℕ) → ((k : ℕ) → k < length xs → e (i + k) ≡ getD xs k d) → chunk e (length xs) i ≡ xs
+pub chunk-is : (e : ℕ → Entry) (d : Entry) (xs : List Entry) (i : ℕ) → ((k : ℕ) → k < length xs → e (i + k) ≡ getD xs k d)
+    → chunk e (length xs) i ≡ xs
 unfolding chunk
 chunk-is e d [] i h = refl
 chunk-is e d (x ∷ xs) i h =
     ap₂ (λ (y : Entry) (ys : List Entry). y ∷ ys)
     (ap e (sym (add-zero i)) ∙ h 0 (let z : 0 < suc (length xs) = omega arith in z))
-    (chunk-is e d xs (suc i) (λ k q. ap e (let z : suc i + k ≡ i + suc k = omega arith in z) ∙ h (suc k) (let z : suc k < suc (length xs) = omega arith in z)))
+    (chunk-is e d xs (suc i)
+    (λ k q. ap e (let z : suc i + k ≡ i + suc k = omega arith in z) ∙ h (suc k) (let z : suc k < suc (length xs) = omega arith in z)))
 
 module _ (g : Graph) (m : Marking) (e : ℕ → Entry) where
   abbrev M : ℕ → Marking
@@ -109,12 +112,14 @@ module _ (g : Graph) (m : Marking) (e : ℕ → Entry) where
   done-between zero i s h f = absurd (true≢false (sym h ∙ ap (λ (k : ℕ). has (M k .due) s) (sym (add-zero i)) ∙ f))
   done-between (suc d) i s h f = go (has (M (i + d) .due) s) refl (done-between d i s h)
     where
-      go : (b : Bool) → has (M (i + d) .due) s ≡ b → (has (M (i + d) .due) s ≡ false → (j : ℕ) × (i ≤ j) × DoneAt g m e j s) → (j : ℕ) × (i ≤ j) × DoneAt g m e j s
+      go : (b : Bool) → has (M (i + d) .due) s ≡ b → (has (M (i + d) .due) s ≡ false → (j : ℕ) × (i ≤ j) × DoneAt g m e j s) → (j : ℕ)
+          × (i ≤ j) × DoneAt g m e j s
       go true q rest =
           let next : i + suc d ≡ suc (i + d) = omega arith in (
             i + d,
             let z : i ≤ i + d = omega arith in z,
-            due-lost (rowOf g (e (i + d) .person) (stepAt g m e (i + d))) (M (i + d)) (stepAt g m e (i + d)) s q (ap (λ (k : ℕ). has (M k .due) s) (sym next) ∙ f),
+            due-lost (rowOf g (e (i + d) .person) (stepAt g m e (i + d))) (M (i + d)) (stepAt g m e (i + d)) s q
+                (ap (λ (k : ℕ). has (M k .due) s) (sym next) ∙ f),
           )
       go false q rest = rest q
 
@@ -147,9 +152,11 @@ module _ (g : Graph) (m : Marking) (e : ℕ → Entry) where
 
           go : (j : ℕ) → i ≤ j → j < i + suc n → Dec (i < j) → Waiting g m e j s
           go j a b (yes p) = r .only s h .1 j p (let z : j < suc i + n = omega arith in z)
-          go j a b (no p) = subst (λ (k : ℕ). Waiting g m e k s) (let z : i ≡ j = omega arith in z) (record { due = now .1; included = now .2; undone = now .3 })
+          go j a b (no p) = subst (λ (k : ℕ). Waiting g m e k s) (let z : i ≡ j = omega arith in z)
+              (record { due = now .1; included = now .2; undone = now .3 })
 
-      gone : (s : ℕ) → has w s ≡ true → has x s ≡ false → (b : Bool) → has (still w (M i) (stepAt g m e i)) s ≡ b → (j : ℕ) × (i ≤ j) × (j < i + suc n) × Ends j s
+      gone : (s : ℕ) → has w s ≡ true → has x s ≡ false → (b : Bool) → has (still w (M i) (stepAt g m e i)) s ≡ b → (j : ℕ) × (i ≤ j)
+          × (j < i + suc n) × Ends j s
       gone s h k true q =
           let f = r .gone s q k in
           let lo : suc i ≤ f .0 = f .1 in
@@ -178,14 +185,21 @@ module _ (g : Graph) (m : Marking) (e : ℕ → Entry) where
   leg-walks : (n i w k : ℕ) → Passed i n w (legOn g (M i) w k (chunk e n i)) ⊎ Barred i n k (legOn g (M i) w k (chunk e n i))
   unfolding legOn chunk goOn entryMove moveOf markingAt
   leg-walks zero i w k =
-      inl (record { left = w; is = ap (λ (j : ℕ). Leg.Ended (M j) w) (sym (add-zero i)); allowed = λ j a b. absurd (let z : ⊥ = omega arith in z); kept = kept-none i w })
+      inl (record {
+        left = w;
+        is = ap (λ (j : ℕ). Leg.Ended (M j) w) (sym (add-zero i));
+        allowed = λ j a b.
+            absurd (let z : ⊥ = omega arith in z);
+        kept = kept-none i w;
+      })
   leg-walks (suc n) i w k = go (says i) refl (leg-walks n (suc i) (still w (M i) (stepAt g m e i)) (k + 1))
     where
       rest : Leg
       rest = legOn g (M (suc i)) (still w (M i) (stepAt g m e i)) (k + 1) (chunk e n (suc i))
 
       -- the first of them is allowed, and those after it
-      first-too : says i ≡ Verdict.Clear → (d : ℕ) → ((j : ℕ) → suc i ≤ j → j < suc i + d → says j ≡ Verdict.Clear) → (j : ℕ) → i ≤ j → j < i + suc d → says j ≡ Verdict.Clear
+      first-too : says i ≡ Verdict.Clear → (d : ℕ) → ((j : ℕ) → suc i ≤ j → j < suc i + d → says j ≡ Verdict.Clear) → (j : ℕ) → i ≤ j
+          → j < i + suc d → says j ≡ Verdict.Clear
       first-too q d more j a b = at (decLt i j)
         where
           at : Dec (i < j) → says j ≡ Verdict.Clear
@@ -193,8 +207,10 @@ module _ (g : Graph) (m : Marking) (e : ℕ → Entry) where
           at (no p) = ap says (let z : j ≡ i = omega arith in z) ∙ q
 
       go : (v : Verdict) → says i ≡ v → Passed (suc i) n (still w (M i) (stepAt g m e i)) rest ⊎ Barred (suc i) n (k + 1) rest
-          → Passed i (suc n) w (goOn k (moveOf v (M i) (M (suc i))) (λ next. legOn g next (still w (M i) (stepAt g m e i)) (k + 1) (chunk e n (suc i))))
-          ⊎ Barred i (suc n) k (goOn k (moveOf v (M i) (M (suc i))) (λ next. legOn g next (still w (M i) (stepAt g m e i)) (k + 1) (chunk e n (suc i))))
+          → Passed i (suc n) w (goOn k (moveOf v (M i) (M (suc i)))
+          (λ next. legOn g next (still w (M i) (stepAt g m e i)) (k + 1) (chunk e n (suc i))))
+          ⊎ Barred i (suc n) k (goOn k (moveOf v (M i) (M (suc i)))
+          (λ next. legOn g next (still w (M i) (stepAt g m e i)) (k + 1) (chunk e n (suc i))))
       go Verdict.Clear q (inl p) =
           inl (record {
             left = p .left;
@@ -227,4 +243,5 @@ module _ (g : Graph) (m : Marking) (e : ℕ → Entry) where
       → Passed i (length xs) w (legOn g x w k xs) ⊎ Barred i (length xs) k (legOn g x w k xs)
   leg-tells xs i w k x p q =
       subst (λ (y : Marking). Passed i (length xs) w (legOn g y w k xs) ⊎ Barred i (length xs) k (legOn g y w k xs)) (sym q)
-      (subst (λ (ys : List Entry). Passed i (length xs) w (legOn g (M i) w k ys) ⊎ Barred i (length xs) k (legOn g (M i) w k ys)) p (leg-walks (length xs) i w k))
+      (subst (λ (ys : List Entry). Passed i (length xs) w (legOn g (M i) w k ys) ⊎ Barred i (length xs) k (legOn g (M i) w k ys)) p
+      (leg-walks (length xs) i w k))

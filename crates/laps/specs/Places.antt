@@ -39,14 +39,16 @@ module _ (stem lap : List Entry) (some : 0 < length lap) where
   abbrev second-lap : ℕ
   second-lap = length stem + length lap
 
-  pub in-stem : (d : ℕ) → d < length stem → (runOf stem lap d ≡ getD stem d (entryOf 0 0 0)) × (indexAt stem lap d ≡ d) × (passAt stem lap d ≡ 0)
+  pub in-stem : (d : ℕ) → d < length stem → (runOf stem lap d ≡ getD stem d (entryOf 0 0 0)) × (indexAt stem lap d ≡ d)
+      × (passAt stem lap d ≡ 0)
   unfolding runOf indexAt passAt
   in-stem d h = let q : ltb d (length stem) ≡ true = lt-ltb d (length stem) h in (simp q, simp q, simp q)
 
   -- the place in the lap
   place : (i d : ℕ) → d < length lap → (i ≡ length stem + d) ⊎ (i ≡ length stem + length lap + d) → (i - length stem) % length lap ≡ d
   place i d h (inl p) = ap (λ (x : ℕ). x % length lap) (let z : i - length stem ≡ d = omega arith in z) ∙ mod-eq-of-lt h
-  place i d h (inr p) = ap (λ (x : ℕ). x % length lap) (let z : i - length stem ≡ d + length lap = omega arith in z) ∙ add-mod-right d (length lap) ∙ mod-eq-of-lt h
+  place i d h (inr p) = ap (λ (x : ℕ). x % length lap) (let z : i - length stem ≡ d + length lap = omega arith in z)
+      ∙ add-mod-right d (length lap) ∙ mod-eq-of-lt h
 
   pub in-lap : (i d : ℕ) → d < length lap → (i ≡ length stem + d) ⊎ (i ≡ length stem + length lap + d) → length stem ≤ i
       → (runOf stem lap i ≡ getD lap d (entryOf 0 0 0)) × (indexAt stem lap i ≡ d)
@@ -89,22 +91,27 @@ module _ (stem lap : List Entry) (some : 0 < length lap) where
   unfolding runOf
   run-again i h =
       let q : ltb i (length stem) ≡ false = le-ltb i (length stem) h in
-      let r : ltb (i + length lap) (length stem) ≡ false = le-ltb (i + length lap) (length stem) (let z : length stem ≤ i + length lap = omega arith in z) in
+      let r : ltb (i + length lap) (length stem) ≡ false =
+      le-ltb (i + length lap) (length stem) (let z : length stem ≤ i + length lap = omega arith in z) in
       let t : (i + length lap - length stem) % length lap ≡ (i - length stem) % length lap =
-      ap (λ (x : ℕ). x % length lap) (let z : i + length lap - length stem ≡ i - length stem + length lap = omega arith in z) ∙ add-mod-right (i - length stem) (length lap) in
+      ap (λ (x : ℕ). x % length lap) (let z : i + length lap - length stem ≡ i - length stem + length lap = omega arith in z)
+      ∙ add-mod-right (i - length stem) (length lap) in
       simp (q, r, t)
 
   pub stem-stands : chunk (runOf stem lap) (length stem) 0 ≡ stem
-  stem-stands = chunk-is (runOf stem lap) (entryOf 0 0 0) stem 0 (λ k h. ap (runOf stem lap) (let z : 0 + k ≡ k = omega arith in z) ∙ in-stem k h .0)
+  stem-stands = chunk-is (runOf stem lap) (entryOf 0 0 0) stem 0
+      (λ k h. ap (runOf stem lap) (let z : 0 + k ≡ k = omega arith in z) ∙ in-stem k h .0)
 
   pub lap-stands : chunk (runOf stem lap) (length lap) first-lap ≡ lap
   lap-stands =
-      chunk-is (runOf stem lap) (entryOf 0 0 0) lap first-lap (λ k h. in-lap (length stem + k) k h (inl refl) (let z : length stem ≤ length stem + k = omega arith in z) .0)
+      chunk-is (runOf stem lap) (entryOf 0 0 0) lap first-lap
+      (λ k h. in-lap (length stem + k) k h (inl refl) (let z : length stem ≤ length stem + k = omega arith in z) .0)
 
   pub lap-stands-again : chunk (runOf stem lap) (length lap) second-lap ≡ lap
   lap-stands-again =
       chunk-is (runOf stem lap) (entryOf 0 0 0) lap second-lap
-      (λ k h. in-lap (length stem + length lap + k) k h (inr refl) (let z : length stem ≤ length stem + length lap + k = omega arith in z) .0)
+      (λ k h. in-lap (length stem + length lap + k) k h (inr refl)
+      (let z : length stem ≤ length stem + length lap + k = omega arith in z) .0)
 
   -- ---- what a lap does, done twice, is what it does once: the marking comes again
 
@@ -120,8 +127,10 @@ module _ (stem lap : List Entry) (some : 0 < length lap) where
 
     marking-again : M (second-lap + length lap) ≡ M second-lap
     marking-again =
-        let one : M second-lap ≡ afterAll g (M first-lap) lap = sym (after-chunk g m e (length lap) first-lap) ∙ ap (afterAll g (M first-lap)) lap-stands in
-        let two : M (second-lap + length lap) ≡ afterAll g (M second-lap) lap = sym (after-chunk g m e (length lap) second-lap) ∙ ap (afterAll g (M second-lap)) lap-stands-again in
+        let one : M second-lap ≡ afterAll g (M first-lap) lap = sym (after-chunk g m e (length lap) first-lap)
+        ∙ ap (afterAll g (M first-lap)) lap-stands in
+        let two : M (second-lap + length lap) ≡ afterAll g (M second-lap) lap = sym (after-chunk g m e (length lap) second-lap)
+        ∙ ap (afterAll g (M second-lap)) lap-stands-again in
         two ∙ ap (λ (x : Marking). afterAll g x lap) one ∙ after-twice g lap (M first-lap) ∙ sym one
 
     entry-again : (i : ℕ) → second-lap ≤ i → e (i + length lap) ≡ e i
@@ -132,7 +141,8 @@ module _ (stem lap : List Entry) (some : 0 < length lap) where
     twice-for-ever h = for-ever g m e second-lap (length lap) some entry-again marking-again h
 
     -- the steps that wait throughout the second lap are those that starve
-    pub second-decides : (w x : ℕ) → Kept g m e second-lap (length lap) w x → ((i s : ℕ) → DueAt g m e i s → has w s ≡ true) → Decides g m e x
+    pub second-decides : (w x : ℕ) → Kept g m e second-lap (length lap) w x → ((i s : ℕ) → DueAt g m e i s → has w s ≡ true)
+        → Decides g m e x
     second-decides = period-decides g m e second-lap (length lap) some entry-again marking-again
 
     -- a step that starves waits at every position from the end of the first lap on
@@ -145,7 +155,8 @@ module _ (stem lap : List Entry) (some : 0 < length lap) where
     never-later clear within k r s = go (decLt (s .position) (second-lap + length lap))
       where
         go : Dec (s .position < second-lap + length lap) → ⊥
-        go (yes h) = let low : passAt stem lap (s .position) < 3 = pass-low (s .position) h in let is : 3 ≡ passAt stem lap (s .position) = s .pass in omega arith
+        go (yes h) = let low : passAt stem lap (s .position) < 3 = pass-low (s .position) h in let is : 3 ≡ passAt stem lap (s .position) =
+            s .pass in omega arith
         go (no h) =
             let all = twice-for-ever (λ i l. taken-clear g m e i (s .refused .before i (let z : i < s .position = omega arith in z))) in
             let taken : TakenAt g m e (s .position) = moves-at g m e clear within (s .position) (λ j l. all j) (all (s .position)) in

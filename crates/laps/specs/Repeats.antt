@@ -66,7 +66,8 @@ module _ (g : Graph) (m : Marking) (e : ℕ → Entry) where
   waits-ends i s v (inr (inr p)) = true≢false (sym (v .included) ∙ p)
 
   -- where the waiting of a step that was due ends, the step has been done or is not included
-  ends-after : (i s : ℕ) → DueAt g m e i s → (j : ℕ) → i ≤ j → Ends g m e j s → (k : ℕ) × (i ≤ k) × (DoneAt g m e k s ⊎ ExcludedAt g m e k s)
+  ends-after : (i s : ℕ) → DueAt g m e i s → (j : ℕ) → i ≤ j → Ends g m e j s → (k : ℕ) × (i ≤ k)
+      × (DoneAt g m e k s ⊎ ExcludedAt g m e k s)
   ends-after i s due j h (inl p) =
       let d = done-between g m e (j - i) i s due (ap (λ (k : ℕ). has (M k .due) s) (let z : i + (j - i) ≡ j = omega arith in z) ∙ p) in
       (d .0, d .1, inl (d .2))
@@ -84,12 +85,17 @@ module _ (g : Graph) (m : Marking) (e : ℕ → Entry) where
     markings-again zero = ap M (let z : 0 + b + l ≡ b + l = omega arith in z) ∙ back ∙ ap M (let z : b ≡ 0 + b = omega arith in z)
     markings-again (suc d) =
         ap M (let z : suc d + b + l ≡ suc (d + b + l) = omega arith in z)
-        ∙ ap₂ (λ (x : Marking) (y : Entry). after (rowOf g (y .person) (y .step .0)) x (y .step .0)) (markings-again d) (again (d + b) (let z : b ≤ d + b = omega arith in z))
+        ∙ ap₂ (λ (x : Marking) (y : Entry). after (rowOf g (y .person) (y .step .0)) x (y .step .0)) (markings-again d)
+        (again (d + b) (let z : b ≤ d + b = omega arith in z))
         ∙ ap M (let z : suc (d + b) ≡ suc d + b = omega arith in z)
 
     one-on : (i : ℕ) → b ≤ i → Same (i + l) i
     one-on i h =
-        record { marking = subst (λ (k : ℕ). M (k + l) ≡ M k) (let z : i - b + b ≡ i = omega arith in z) (markings-again (i - b)); entry = again i h }
+        record {
+          marking = subst (λ (k : ℕ). M (k + l) ≡ M k) (let z : i - b + b ≡ i = omega arith in z) (markings-again (i - b));
+          entry =
+              again i h;
+        }
 
     -- what is seen at i is seen again later than any p
     later : (p i : ℕ) → b ≤ i → (j : ℕ) × (p ≤ j) × (b ≤ j) × Same j i
@@ -98,15 +104,20 @@ module _ (g : Graph) (m : Marking) (e : ℕ → Entry) where
         let r = later p i h in
         let up : p ≤ r .0 = r .1 in
         let in-laps : b ≤ r .0 = r .2 in
-        let f = one-on (r .0) in-laps in
-        (r .0 + l, let z : suc p ≤ r .0 + l = omega arith in z, let z : b ≤ r .0 + l = omega arith in z, record { marking = f .marking ∙ r .3 .marking; entry = f .entry ∙ r .3 .entry })
+        let f = one-on (r .0) in-laps in (
+          r .0 + l,
+          let z : suc p ≤ r .0 + l = omega arith in z,
+          let z : b ≤ r .0 + l = omega arith in z,
+          record { marking = f .marking ∙ r .3 .marking; entry = f .entry ∙ r .3 .entry },
+        )
 
     -- and was seen within the first period
     earlier : (n i : ℕ) → i ≤ n → b ≤ i → (j : ℕ) × (b ≤ j) × (j < b + l) × Same i j
     earlier zero i h k = (i, k, let z : i < b + l = omega arith in z, record { marking = refl; entry = refl })
     earlier (suc n) i h k = go (decLt i (b + l)) (earlier n (i - l))
       where
-        go : Dec (i < b + l) → (i - l ≤ n → b ≤ i - l → (j : ℕ) × (b ≤ j) × (j < b + l) × Same (i - l) j) → (j : ℕ) × (b ≤ j) × (j < b + l) × Same i j
+        go : Dec (i < b + l) → (i - l ≤ n → b ≤ i - l → (j : ℕ) × (b ≤ j) × (j < b + l) × Same (i - l) j) → (j : ℕ) × (b ≤ j) × (j < b + l)
+            × Same i j
         go (yes p) rest = (i, k, p, record { marking = refl; entry = refl })
         go (no p) rest =
             let low : b ≤ i - l = omega arith in
@@ -141,7 +152,8 @@ module _ (g : Graph) (m : Marking) (e : ℕ → Entry) where
     period-decides w x kept known =
         record {
           starving = λ s h. (b, waits-on s (kept .only s h .1));
-          others = λ s h st. let f = kept .gone s (known b s (starving-from s st b (le-refl b) .due)) h in waits-ends (f .0) s (starving-from s st (f .0) (f .1)) (f .3);
+          others = λ s h st. let f = kept .gone s (known b s (starving-from s st b (le-refl b) .due)) h in
+              waits-ends (f .0) s (starving-from s st (f .0) (f .1)) (f .3);
           accepting = λ none i s due. let f = kept .gone s (known i s due) (none s) in
               let r = later i (f .0) (f .1) in
               ends-after i s due (r .0) (r .1) (same-ends (f .0) (r .0) s (same-back (r .0) (f .0) (r .3)) (f .3));

@@ -36,7 +36,8 @@ use Rattle.laps.specs.Decision.{still, goOn, legOn, legOf, upon}
 
 module _ (g : Graph) (m : Marking) (x : ℕ) (j : List ℕ) (k : ℕ) where
   -- entry k is allowed: the leg goes on behind it
-  pub leg-moved : (next : Marking) (y : ℕ) → 3 * k + 3 ≤ length j → entryMove g m (entryAt j k) ≡ Move.Moved next → y ≡ still x m (entryAt j k .step .0)
+  pub leg-moved : (next : Marking) (y : ℕ) → 3 * k + 3 ≤ length j → entryMove g m (entryAt j k) ≡ Move.Moved next
+      → y ≡ still x m (entryAt j k .step .0)
       → legOn g m x k (entries (drop (3 * k) j)) ≡ legOn g next y (k + 1) (entries (drop (3 * (k + 1)) j))
   unfolding legOn goOn
   leg-moved next y h q e =
@@ -68,11 +69,13 @@ module _ (g : Graph) (m : Marking) (x : ℕ) (j : List ℕ) (k : ℕ) where
 
 -- ---- what follows a leg
 
-pub upon-ended : (leg : Leg) (p : Pass) (rest : Marking → ℕ → Lapped) (m : Marking) (x : ℕ) → leg ≡ Leg.Ended m x → upon leg p rest ≡ rest m x
+pub upon-ended : (leg : Leg) (p : Pass) (rest : Marking → ℕ → Lapped) (m : Marking) (x : ℕ) → leg ≡ Leg.Ended m x
+    → upon leg p rest ≡ rest m x
 unfolding upon
 upon-ended leg p rest m x q = ap (λ (l : Leg). upon l p rest) q
 
-pub upon-stopped : (leg : Leg) (p : Pass) (rest : Marking → ℕ → Lapped) (k : ℕ) (r : Refusal) → leg ≡ Leg.Stopped k r → upon leg p rest ≡ Lapped.Stopped k p r
+pub upon-stopped : (leg : Leg) (p : Pass) (rest : Marking → ℕ → Lapped) (k : ℕ) (r : Refusal) → leg ≡ Leg.Stopped k r
+    → upon leg p rest ≡ Lapped.Stopped k p r
 unfolding upon
 upon-stopped leg p rest k r q = ap (λ (l : Leg). upon l p rest) q
 
@@ -89,8 +92,10 @@ leg-run g p rest [] m x k = refl
 leg-run g p rest (e ∷ es) m x k = go (entryMove g m e) (λ next. leg-run g p rest es next (still x m (e .step .0)) (k + 1))
   where
     go : (o : Move)
-        → ((next : Marking) → upon (legOn g next (still x m (e .step .0)) (k + 1) es) p (λ end y. rest end) ≡ uponRun (runOn g next (k + 1) es) p rest)
-        → upon (goOn k o (λ next. legOn g next (still x m (e .step .0)) (k + 1) es)) p (λ end y. rest end) ≡ uponRun (run.goOn k m o (λ next. runOn g next (k + 1) es)) p rest
+        → ((next : Marking) → upon (legOn g next (still x m (e .step .0)) (k + 1) es) p (λ end y. rest end) ≡ uponRun
+        (runOn g next (k + 1) es) p rest)
+        → upon (goOn k o (λ next. legOn g next (still x m (e .step .0)) (k + 1) es)) p (λ end y. rest end) ≡ uponRun
+        (run.goOn k m o (λ next. runOn g next (k + 1) es)) p rest
     go (Move.Moved next) more = more next
     go (Move.Refused r back) more = refl
 
@@ -111,13 +116,15 @@ module _ (g : Graph) (m : Marking) (stem lap : List ℕ) where
   lines-graph r q = first-refused (graphLines g) (lengthsLines stem lap ++ markingLines g m ++ emptyLines lap) r q
 
   -- the lines after the graph's
-  lines-after : (l f n : Bool) → graphVerdict g ≡ Verdict.Clear → (lengthFits stem && lengthFits lap) ≡ l → markingFits (g .steps) m ≡ f → eqb (length lap) 0 ≡ n
+  lines-after : (l f n : Bool) → graphVerdict g ≡ Verdict.Clear → (lengthFits stem && lengthFits lap) ≡ l → markingFits (g .steps) m ≡ f
+      → eqb (length lap) 0 ≡ n
       → first (lapLines g m stem lap) ≡ first ((Length, not l) ∷ (Outside, not f) ∷ (EmptyLap, n) ∷ [])
   lines-after l f n q a b c =
       first-clear (graphLines g) (lengthsLines stem lap ++ markingLines g m ++ emptyLines lap) q
       ∙ (λ i. first ((Length, not (a i)) ∷ (Outside, not (b i)) ∷ (EmptyLap, c i) ∷ []))
 
-  pub lines-length : graphVerdict g ≡ Verdict.Clear → (lengthFits stem && lengthFits lap) ≡ false → first (lapLines g m stem lap) ≡ Verdict.Refused Length
+  pub lines-length : graphVerdict g ≡ Verdict.Clear → (lengthFits stem && lengthFits lap) ≡ false
+      → first (lapLines g m stem lap) ≡ Verdict.Refused Length
   unfolding first
   lines-length q a = lines-after false (markingFits (g .steps) m) (eqb (length lap) 0) q a refl refl
 
@@ -126,12 +133,14 @@ module _ (g : Graph) (m : Marking) (stem lap : List ℕ) where
   unfolding first
   lines-outside q a b = lines-after true false (eqb (length lap) 0) q a b refl
 
-  pub lines-empty : graphVerdict g ≡ Verdict.Clear → (lengthFits stem && lengthFits lap) ≡ true → markingFits (g .steps) m ≡ true → eqb (length lap) 0 ≡ true
+  pub lines-empty : graphVerdict g ≡ Verdict.Clear → (lengthFits stem && lengthFits lap) ≡ true → markingFits (g .steps) m ≡ true
+      → eqb (length lap) 0 ≡ true
       → first (lapLines g m stem lap) ≡ Verdict.Refused EmptyLap
   unfolding first
   lines-empty q a b c = lines-after true true true q a b c
 
-  pub lines-clear : graphVerdict g ≡ Verdict.Clear → (lengthFits stem && lengthFits lap) ≡ true → markingFits (g .steps) m ≡ true → eqb (length lap) 0 ≡ false
+  pub lines-clear : graphVerdict g ≡ Verdict.Clear → (lengthFits stem && lengthFits lap) ≡ true → markingFits (g .steps) m ≡ true
+      → eqb (length lap) 0 ≡ false
       → first (lapLines g m stem lap) ≡ Verdict.Clear
   unfolding first
   lines-clear q a b c = lines-after true true false q a b c

@@ -15,14 +15,14 @@ use journal::Ran;
 use journal::inner::entry_at;
 use journal::quick::SINGLES;
 use journal::quick::allowed;
-use journal::quick::taken;
 use journal::quick::run_entries;
+use journal::quick::taken;
 use moves::Entry;
-use rules::Job;
 use moves::Marking;
 use moves::Move;
 use moves::Refusal;
 use moves::Step;
+use rules::Job;
 use rules::inner::enter;
 
 // Every step there could be.

@@ -3,11 +3,11 @@ ghost use Rattle.rules.specs.Graph.{graphOf};
 ghost use Rattle.laps.specs.Laps.{LapAnswer};
 use crate::inner::decide;
 use journal::inner::length_fits;
-use rules::Job;
 use moves::Marking;
 use moves::Refusal;
 use moves::Step;
 use moves::Verdict;
+use rules::Job;
 
 pub mod inner;
 

@@ -3,7 +3,9 @@ use Prim.Native.Nat.{ℕ}
 use mathlib.Core.List.{List, [], _∷_}
 use mathlib.Core.Bool.{Bool, cond}
 use Rattle.moves.specs.declared.Refusal.{Refusal}
-use Rattle.moves.specs.declared.Refusal.the-variants.{Layout, Counts, Bodies, Beyond, Arrows, Both, Length, Outside, NoRank, IllFormed, Unknown, NotHeld, NotOnStep, Excluded, Waits, NotApplied, EmptyLap, Room}
+use Rattle.moves.specs.declared.Refusal.the-variants.{Layout, Counts, Bodies, Beyond, Arrows, Both, Length, Outside, NoRank}
+use Rattle.moves.specs.declared.Refusal.the-variants.{IllFormed, Unknown, NotHeld, NotOnStep, Excluded, Waits, NotApplied, EmptyLap}
+use Rattle.moves.specs.declared.Refusal.the-variants.{Room}
 use Rattle.moves.specs.declared.Told.{Told}
 use Rattle.moves.specs.declared.Verdict.{Verdict}
 

@@ -21,9 +21,11 @@ unfolding first
 first-clear [] b e = refl
 first-clear (l ∷ a) b e = go (l .1) refl (first-clear a b)
   where
-    go : (h : Bool) → l .1 ≡ h → (first a ≡ Verdict.Clear → first (a ++ b) ≡ first b) → cond (l .1) (Verdict.Refused (l .0)) (first (a ++ b)) ≡ first b
+    go : (h : Bool) → l .1 ≡ h → (first a ≡ Verdict.Clear → first (a ++ b) ≡ first b)
+        → cond (l .1) (Verdict.Refused (l .0)) (first (a ++ b)) ≡ first b
     go true p rest = absurd (let z : _≡_ {A = ℕ} 0 1 = cc in let w : ⊥ = omega arith in w)
-    go false p rest = ap (λ (h : Bool). cond h (Verdict.Refused (l .0)) (first (a ++ b))) p ∙ rest (ap (λ (h : Bool). cond h (Verdict.Refused (l .0)) (first a)) (sym p) ∙ e)
+    go false p rest = ap (λ (h : Bool). cond h (Verdict.Refused (l .0)) (first (a ++ b))) p
+        ∙ rest (ap (λ (h : Bool). cond h (Verdict.Refused (l .0)) (first a)) (sym p) ∙ e)
 
 -- a refusal of a table stands whatever follows
 pub first-refused : (a b : List Line) (r : Refusal) → first a ≡ Verdict.Refused r → first (a ++ b) ≡ Verdict.Refused r
@@ -31,9 +33,12 @@ unfolding first
 first-refused [] b r e = absurd (let z : _≡_ {A = ℕ} 0 1 = cc in let w : ⊥ = omega arith in w)
 first-refused (l ∷ a) b r e = go (l .1) refl (first-refused a b r)
   where
-    go : (h : Bool) → l .1 ≡ h → (first a ≡ Verdict.Refused r → first (a ++ b) ≡ Verdict.Refused r) → cond (l .1) (Verdict.Refused (l .0)) (first (a ++ b)) ≡ Verdict.Refused r
-    go true p rest = ap (λ (h : Bool). cond h (Verdict.Refused (l .0)) (first (a ++ b))) p ∙ ap (λ (h : Bool). cond h (Verdict.Refused (l .0)) (first a)) (sym p) ∙ e
-    go false p rest = ap (λ (h : Bool). cond h (Verdict.Refused (l .0)) (first (a ++ b))) p ∙ rest (ap (λ (h : Bool). cond h (Verdict.Refused (l .0)) (first a)) (sym p) ∙ e)
+    go : (h : Bool) → l .1 ≡ h → (first a ≡ Verdict.Refused r → first (a ++ b) ≡ Verdict.Refused r)
+        → cond (l .1) (Verdict.Refused (l .0)) (first (a ++ b)) ≡ Verdict.Refused r
+    go true p rest = ap (λ (h : Bool). cond h (Verdict.Refused (l .0)) (first (a ++ b))) p
+        ∙ ap (λ (h : Bool). cond h (Verdict.Refused (l .0)) (first a)) (sym p) ∙ e
+    go false p rest = ap (λ (h : Bool). cond h (Verdict.Refused (l .0)) (first (a ++ b))) p
+        ∙ rest (ap (λ (h : Bool). cond h (Verdict.Refused (l .0)) (first a)) (sym p) ∙ e)
 
 -- in a table with nothing against it no line holds
 pub clear-head : (l : Line) (a : List Line) → first (l ∷ a) ≡ Verdict.Clear → l .1 ≡ false
@@ -54,7 +59,9 @@ clear-front a b e = go (first a) refl
   where
     go : (v : Verdict) → first a ≡ v → first a ≡ Verdict.Clear
     go Verdict.Clear p = p
-    go (Verdict.Refused r) p = absurd (let s : Verdict.Refused r ≡ Verdict.Clear = sym (first-refused a b r p) ∙ e in let z : _≡_ {A = ℕ} 0 1 = cc in let w : ⊥ = omega arith in w)
+    go (Verdict.Refused r) p =
+        absurd (let s : Verdict.Refused r ≡ Verdict.Clear = sym (first-refused a b r p) ∙ e in let z : _≡_ {A = ℕ} 0 1 = cc in let w : ⊥ =
+        omega arith in w)
 
 pub clear-back : (a b : List Line) → first (a ++ b) ≡ Verdict.Clear → first b ≡ Verdict.Clear
 clear-back a b e = sym (first-clear a b (clear-front a b e)) ∙ e
@@ -76,7 +83,8 @@ first-below k (l ∷ a) r h e = go (l .1) refl (first-below k a r (and-right (lt
     go : (b : Bool) → l .1 ≡ b → (first a ≡ Verdict.Refused r → numberOf r < k) → numberOf r < k
     go true p rest =
         let same : l .0 ≡ r = cc in
-        subst (λ (q : Refusal). numberOf q < k) same (ltb-true (numberOf (l .0)) k (and-left (ltb (numberOf (l .0)) k) (numbersBelow k a) h))
+        subst (λ (q : Refusal). numberOf q < k) same
+        (ltb-true (numberOf (l .0)) k (and-left (ltb (numberOf (l .0)) k) (numbersBelow k a) h))
     go false p rest = rest (ap (λ (h : Bool). cond h (Verdict.Refused (l .0)) (first a)) (sym p) ∙ e)
 
 -- ---- the number given is the lowest that holds
@@ -95,7 +103,8 @@ ascends k (l ∷ rest) = ltb k (numberOf (l .0)) && ascends (numberOf (l .0)) re
 pub first-above : (k : ℕ) (a : List Line) (r : Refusal) → ascends k a ≡ true → first a ≡ Verdict.Refused r → k < numberOf r
 unfolding first ascends
 first-above k [] r h e = absurd (let z : _≡_ {A = ℕ} 0 1 = cc in let w : ⊥ = omega arith in w)
-first-above k (l ∷ a) r h e = go (l .1) refl (first-above (numberOf (l .0)) a r (and-right (ltb k (numberOf (l .0))) (ascends (numberOf (l .0)) a) h))
+first-above k (l ∷ a) r h e =
+    go (l .1) refl (first-above (numberOf (l .0)) a r (and-right (ltb k (numberOf (l .0))) (ascends (numberOf (l .0)) a) h))
   where
     here : k < numberOf (l .0)
     here = ltb-true k (numberOf (l .0)) (and-left (ltb k (numberOf (l .0))) (ascends (numberOf (l .0)) a) h)
@@ -110,11 +119,13 @@ unfolding first holds
 first-holds [] r e = absurd (let z : _≡_ {A = ℕ} 0 1 = cc in let w : ⊥ = omega arith in w)
 first-holds (l ∷ a) r e = go (l .1) refl (first-holds a r)
   where
-    go : (b : Bool) → l .1 ≡ b → (first a ≡ Verdict.Refused r → holds (numberOf r) a ≡ true) → ((eqb (numberOf (l .0)) (numberOf r) && l .1) || holds (numberOf r) a) ≡ true
+    go : (b : Bool) → l .1 ≡ b → (first a ≡ Verdict.Refused r → holds (numberOf r) a ≡ true)
+        → ((eqb (numberOf (l .0)) (numberOf r) && l .1) || holds (numberOf r) a) ≡ true
     go true p rest =
         let same : l .0 ≡ r = cc in
         or-first (holds (numberOf r) a) (and-intro (eq-eqb (numberOf (l .0)) (numberOf r) (ap numberOf same)) p)
-    go false p rest = or-second (eqb (numberOf (l .0)) (numberOf r) && l .1) (rest (ap (λ (h : Bool). cond h (Verdict.Refused (l .0)) (first a)) (sym p) ∙ e))
+    go false p rest = or-second (eqb (numberOf (l .0)) (numberOf r) && l .1)
+        (rest (ap (λ (h : Bool). cond h (Verdict.Refused (l .0)) (first a)) (sym p) ∙ e))
 
 above : (k : ℕ) (a : List Line) (j : ℕ) → ascends k a ≡ true → holds j a ≡ true → k < j
 unfolding ascends holds
@@ -123,13 +134,16 @@ above k (l ∷ a) j h e =
     let here : k < numberOf (l .0) = ltb-true k (numberOf (l .0)) (and-left (ltb k (numberOf (l .0))) (ascends (numberOf (l .0)) a) h) in
     or-split (eqb (numberOf (l .0)) j && l .1) (holds j a) (k < j) e
     (λ t. let q : numberOf (l .0) ≡ j = eqb-true (numberOf (l .0)) j (and-left (eqb (numberOf (l .0)) j) (l .1) t) in omega arith)
-    (λ t. let later : numberOf (l .0) < j = above (numberOf (l .0)) a j (and-right (ltb k (numberOf (l .0))) (ascends (numberOf (l .0)) a) h) t in omega arith)
+    (λ t. let later : numberOf (l .0) < j =
+    above (numberOf (l .0)) a j (and-right (ltb k (numberOf (l .0))) (ascends (numberOf (l .0)) a) h) t in omega arith)
 
 -- no lower number holds; and where none is given none holds
-pub first-lowest : (k : ℕ) (a : List Line) → ascends k a ≡ true → (j : ℕ) → holds j a ≡ true → (0 < number (first a)) × (number (first a) ≤ j)
+pub first-lowest : (k : ℕ) (a : List Line) → ascends k a ≡ true → (j : ℕ) → holds j a ≡ true → (0 < number (first a))
+    × (number (first a) ≤ j)
 unfolding ascends holds first number
 first-lowest k [] h j e = absurd (false≢true e)
-first-lowest k (l ∷ a) h j e = go (l .1) refl (first-lowest (numberOf (l .0)) a (and-right (ltb k (numberOf (l .0))) (ascends (numberOf (l .0)) a) h) j)
+first-lowest k (l ∷ a) h j e =
+    go (l .1) refl (first-lowest (numberOf (l .0)) a (and-right (ltb k (numberOf (l .0))) (ascends (numberOf (l .0)) a) h) j)
   where
     here : k < numberOf (l .0)
     here = ltb-true k (numberOf (l .0)) (and-left (ltb k (numberOf (l .0))) (ascends (numberOf (l .0)) a) h)
@@ -137,14 +151,17 @@ first-lowest k (l ∷ a) h j e = go (l .1) refl (first-lowest (numberOf (l .0)) 
     go : (b : Bool) → l .1 ≡ b → (holds j a ≡ true → (0 < number (first a)) × (number (first a) ≤ j))
         → (0 < number (cond (l .1) (Verdict.Refused (l .0)) (first a))) × (number (cond (l .1) (Verdict.Refused (l .0)) (first a)) ≤ j)
     go true p rest =
-        subst (λ (b : Bool). (0 < number (cond b (Verdict.Refused (l .0)) (first a))) × (number (cond b (Verdict.Refused (l .0)) (first a)) ≤ j)) (sym p) (
+        subst (λ (b : Bool). (0 < number (cond b (Verdict.Refused (l .0)) (first a)))
+        × (number (cond b (Verdict.Refused (l .0)) (first a)) ≤ j)) (sym p) (
           let up : k < numberOf (l .0) = here in omega arith,
           or-split (eqb (numberOf (l .0)) j && l .1) (holds j a) (numberOf (l .0) ≤ j) e
               (λ t. let q : numberOf (l .0) ≡ j = eqb-true (numberOf (l .0)) j (and-left (eqb (numberOf (l .0)) j) (l .1) t) in omega arith)
-              (λ t. let later : numberOf (l .0) < j = above (numberOf (l .0)) a j (and-right (ltb k (numberOf (l .0))) (ascends (numberOf (l .0)) a) h) t in omega arith),
+              (λ t. let later : numberOf (l .0) < j =
+              above (numberOf (l .0)) a j (and-right (ltb k (numberOf (l .0))) (ascends (numberOf (l .0)) a) h) t in omega arith),
         )
     go false p rest =
-        subst (λ (b : Bool). (0 < number (cond b (Verdict.Refused (l .0)) (first a))) × (number (cond b (Verdict.Refused (l .0)) (first a)) ≤ j)) (sym p)
+        subst (λ (b : Bool). (0 < number (cond b (Verdict.Refused (l .0)) (first a)))
+        × (number (cond b (Verdict.Refused (l .0)) (first a)) ≤ j)) (sym p)
         (rest (or-split (eqb (numberOf (l .0)) j && l .1) (holds j a) (holds j a ≡ true) e
         (λ t. absurd (true≢false (sym (and-right (eqb (numberOf (l .0)) j) (l .1) t) ∙ p)))
         (λ t. t)))
@@ -199,7 +216,8 @@ nothing-exactly lines up = (there, back (first lines) refl)
 pub holds-append : (k : ℕ) (a b : List Line) → holds k (a ++ b) ≡ (holds k a || holds k b)
 unfolding holds
 holds-append k [] b = refl
-holds-append k (l ∷ a) b = ap (λ (x : Bool). (eqb (numberOf (l .0)) k && l .1) || x) (holds-append k a b) ∙ or-assoc (eqb (numberOf (l .0)) k && l .1) (holds k a) (holds k b)
+holds-append k (l ∷ a) b = ap (λ (x : Bool). (eqb (numberOf (l .0)) k && l .1) || x) (holds-append k a b)
+    ∙ or-assoc (eqb (numberOf (l .0)) k && l .1) (holds k a) (holds k b)
   where
     or-assoc : (p q r : Bool) → (p || (q || r)) ≡ ((p || q) || r)
     or-assoc true q r = refl

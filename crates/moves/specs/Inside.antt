@@ -26,4 +26,5 @@ fits-inside n m e =
     }
 
 pub inside-fits : (n : ℕ) (m : Marking) → Inside n m → markingFits n m ≡ true
-inside-fits n m i = and-intro (and-intro (lt-ltb (m .done) (2 ^ n) (i .done-in)) (lt-ltb (m .due) (2 ^ n) (i .due-in))) (lt-ltb (m .included) (2 ^ n) (i .included-in))
+inside-fits n m i = and-intro (and-intro (lt-ltb (m .done) (2 ^ n) (i .done-in)) (lt-ltb (m .due) (2 ^ n) (i .due-in)))
+    (lt-ltb (m .included) (2 ^ n) (i .included-in))

@@ -26,16 +26,19 @@ pub counts-most : (n : ℕ) → within1to n 64 ≡ true → n ≤ 64
 counts-most n e = leb-true n 64 (and-right (leb 1 n) (leb n 64) e)
 
 -- two well-formed records are joined
-pub joins : (n : ℕ) (a b : Record) → within1to n 64 ≡ true → wellFormed n a ≡ true → wellFormed n b ≡ true → theJoin n a b ≡ Recorded.Made (join a b)
+pub joins : (n : ℕ) (a b : Record) → within1to n 64 ≡ true → wellFormed n a ≡ true → wellFormed n b ≡ true
+    → theJoin n a b ≡ Recorded.Made (join a b)
 unfolding theJoin recordedOf first
 joins n a b c p q = simp (c, p, q)
 
 -- where counts, marking and record are as they should be, only 16 is left
-pub applies-on : (n : ℕ) (r : Record) (m : Marking) → within1to n 64 ≡ true → markingFits n m ≡ true → wellFormed n r ≡ true → theApplication n r m ≡ appliedOn r m
+pub applies-on : (n : ℕ) (r : Record) (m : Marking) → within1to n 64 ≡ true → markingFits n m ≡ true → wellFormed n r ≡ true
+    → theApplication n r m ≡ appliedOn r m
 unfolding theApplication appliedOf first numberOf
 applies-on n r m c f g = simp (c, f, g) (go (applies r m))
   where
-    go : (p : Bool) → appliedOf (cond (not p) (Verdict.Refused NotApplied) Verdict.Clear) m (gives r m) ≡ cond p (Applied.Gives (gives r m)) (Applied.Refused NotApplied m)
+    go : (p : Bool) → appliedOf (cond (not p) (Verdict.Refused NotApplied) Verdict.Clear) m (gives r m) ≡ cond p (Applied.Gives (gives r m))
+        (Applied.Refused NotApplied m)
     go true = refl
     go false = refl
 
@@ -52,7 +55,10 @@ unfolding theApplication appliedOf first
 applying n r m x e = go (within1to n 64) (markingFits n m) (wellFormed n r) (applies r m) refl refl refl refl e
   where
     go : (c f g s : Bool) → within1to n 64 ≡ c → markingFits n m ≡ f → wellFormed n r ≡ g → applies r m ≡ s
-        → appliedOf (cond (not c) (Verdict.Refused Counts) (cond (not f) (Verdict.Refused Outside) (cond (not g) (Verdict.Refused IllFormed) (cond (not s) (Verdict.Refused NotApplied) Verdict.Clear)))) m (gives r m) ≡ Applied.Gives x
+        → appliedOf (cond (not c) (Verdict.Refused Counts)
+        (cond (not f) (Verdict.Refused Outside)
+        (cond (not g) (Verdict.Refused IllFormed) (cond (not s) (Verdict.Refused NotApplied) Verdict.Clear)))) m
+        (gives r m) ≡ Applied.Gives x
         → Applying n r m x
     go true true true true c f g s q = record { counts = c; fits = f; good = g; suits = s; given = cc }
     go true true true false c f g s q = absurd (let z : _≡_ {A = ℕ} 0 1 = cc in let w : ⊥ = omega arith in w)
@@ -70,7 +76,8 @@ gives-inside n r m b i =
     record {
       done-in = union-lt n (m .done) (r .done) (i .done-in) (b .done-in);
       due-in = union-lt n (minus (m .due) (r .dueclear)) (r .dueset) (minus-lt n (m .due) (r .dueclear) (i .due-in)) (b .dueset-in);
-      included-in = union-lt n (minus (m .included) (r .inclear)) (r .inset) (minus-lt n (m .included) (r .inclear) (i .included-in)) (b .inset-in);
+      included-in = union-lt n (minus (m .included) (r .inclear)) (r .inset) (minus-lt n (m .included) (r .inclear) (i .included-in))
+          (b .inset-in);
     }
 
 -- the number of an answer is the first that holds of its table

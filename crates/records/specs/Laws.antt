@@ -20,7 +20,8 @@ use Rattle.records.specs.Records.{applies, gives, acts, compose, sorted,
 
 -- the steps at which a marking is not as the three needs have it
 abbrev lack : ℕ → ℕ → ℕ → Marking → ℕ
-lack needin needex needout m = union (union (minus needin (m .included)) (minus needex (m .done))) (minus (meet needout (m .included)) (m .done))
+lack needin needex needout m =
+    union (union (minus needin (m .included)) (minus needex (m .done))) (minus (meet needout (m .included)) (m .done))
 
 -- and a record's needs
 abbrev pub lacks : Record → Marking → ℕ
@@ -29,7 +30,9 @@ lacks r m = lack (r .needin) (r .needex) (r .needout) m
 -- a record applies exactly if never is off and the marking lacks nothing
 pub applies-lacks : (r : Record) (m : Marking) → applies r m ≡ (not (r .never) && empty (lacks r m))
 unfolding applies
-applies-lacks r m = regroup (not (r .never)) _ _ _ ∙ ap (λ (b : Bool). not (r .never) && b) (sym (three (minus (r .needin) (m .included)) (minus (r .needex) (m .done)) (minus (meet (r .needout) (m .included)) (m .done))))
+applies-lacks r m = regroup (not (r .never)) _ _ _
+    ∙ ap (λ (b : Bool). not (r .never) && b)
+    (sym (three (minus (r .needin) (m .included)) (minus (r .needex) (m .done)) (minus (meet (r .needout) (m .included)) (m .done))))
   where
     regroup : (p q s t : Bool) → (p && q && s && t) ≡ (p && (q && s && t))
     regroup true q s t = refl
@@ -128,13 +131,15 @@ pub applies-compose : (a b : Record) (m : Marking) → applies (compose a b) m �
 applies-compose a b m =
     applies-lacks (compose a b) m
     ∙ truths (a .never) (b .never) (empty (barred a b)) (empty (lacks (compose a b) m)) (empty (lacks a m)) (empty (lacks b (gives a m)))
-    (sym (empty-union (lacks (compose a b) m) (barred a b)) ∙ ap empty (lacks-compose a b m) ∙ empty-union (lacks a m) (lacks b (gives a m)))
+    (sym (empty-union (lacks (compose a b) m) (barred a b)) ∙ ap empty (lacks-compose a b m)
+    ∙ empty-union (lacks a m) (lacks b (gives a m)))
     ∙ sym (both (applies-lacks a m) (applies-lacks b (gives a m)))
   where
     both : {p q s t : Bool} → p ≡ q → s ≡ t → (p && s) ≡ (q && t)
     both e f i = e i && f i
 
-    truths : (an bn clear all la lb : Bool) → (all && clear) ≡ (la && lb) → (not (an || bn || not clear) && all) ≡ ((not an && la) && (not bn && lb))
+    truths : (an bn clear all la lb : Bool) → (all && clear) ≡ (la && lb)
+        → (not (an || bn || not clear) && all) ≡ ((not an && la) && (not bn && lb))
     truths true bn clear all la lb e = refl
     truths false true clear all true lb e = refl
     truths false true clear all false lb e = refl
@@ -160,7 +165,8 @@ gives-compose a b m i =
     }
 
 -- what is done under two tests, one after the other
-acts-both : (p q : Bool) (x y : Marking) (k : Marking → Option Marking) → k x ≡ cond q (some y) none → cond (p && q) (some y) none ≡ bind (cond p (some x) none) k
+acts-both : (p q : Bool) (x y : Marking) (k : Marking → Option Marking) → k x ≡ cond q (some y) none
+    → cond (p && q) (some y) none ≡ bind (cond p (some x) none) k
 unfolding bind
 acts-both true q x y k e = sym e
 acts-both false q x y k e = refl
@@ -171,13 +177,15 @@ unfolding acts
 acts-compose a b m =
     ap (λ (p : Bool). cond p (some (gives (compose a b) m)) none) (applies-compose a b m)
     ∙ ap (λ (x : Marking). cond (applies a m && applies b (gives a m)) (some x) none) (gives-compose a b m)
-    ∙ acts-both (applies a m) (applies b (gives a m)) (gives a m) (gives b (gives a m)) (λ x. cond (applies b x) (some (gives b x)) none) refl
+    ∙ acts-both (applies a m) (applies b (gives a m)) (gives a m) (gives b (gives a m))
+    (λ x. cond (applies b x) (some (gives b x)) none) refl
 
 -- ---- what a record gives, given twice
 
 changed-again : (x c s : ℕ) → union (minus (union (minus x c) s) c) s ≡ union (minus x c) s
 changed-again x c s =
-    as-sets (λ v. union (minus (union (minus (getD v 0 0) (getD v 1 0)) (getD v 2 0)) (getD v 1 0)) (getD v 2 0)) (λ v. union (minus (getD v 0 0) (getD v 1 0)) (getD v 2 0))
+    as-sets (λ v. union (minus (union (minus (getD v 0 0) (getD v 1 0)) (getD v 2 0)) (getD v 1 0)) (getD v 2 0))
+    (λ v. union (minus (getD v 0 0) (getD v 1 0)) (getD v 2 0))
     (x ∷ c ∷ s ∷ []) (λ i. simp at-digit) (λ i. simp at-digit) refl
 
 gained-again : (x d : ℕ) → union (union x d) d ≡ union x d
@@ -204,19 +212,22 @@ lacks-sorted r m =
 -- where the record applies, what it would do again is left out
 done-sorted : (r : Record) (m : Marking) → lacks r m ≡ 0 → gives (sorted r) m .done ≡ gives r m .done
 done-sorted r m =
-    by-digits (λ v. lacks (record-of v) (marking-of v)) (λ v. gives (sorted (record-of v)) (marking-of v) .done) (λ v. gives (record-of v) (marking-of v) .done)
+    by-digits (λ v. lacks (record-of v) (marking-of v)) (λ v. gives (sorted (record-of v)) (marking-of v) .done)
+    (λ v. gives (record-of v) (marking-of v) .done)
     (m .done ∷ m .included ∷ r .needin ∷ r .needex ∷ r .needout ∷ r .done ∷ [])
     (λ i. simp at-digit) (λ i. simp at-digit) (λ i. simp at-digit) refl
 
 included-sorted : (r : Record) (m : Marking) → lacks r m ≡ 0 → gives (sorted r) m .included ≡ gives r m .included
 included-sorted r m =
-    by-digits (λ v. lacks (record-of v) (marking-of v)) (λ v. gives (sorted (record-of v)) (marking-of v) .included) (λ v. gives (record-of v) (marking-of v) .included)
+    by-digits (λ v. lacks (record-of v) (marking-of v)) (λ v. gives (sorted (record-of v)) (marking-of v) .included)
+    (λ v. gives (record-of v) (marking-of v) .included)
     (m .done ∷ m .included ∷ r .needin ∷ r .needex ∷ r .needout ∷ r .done ∷ r .inset ∷ r .inclear ∷ [])
     (λ i. simp at-digit) (λ i. simp at-digit) (λ i. simp at-digit) refl
 
 due-sorted : (x c s : ℕ) → union (minus x (minus c s)) s ≡ union (minus x c) s
 due-sorted x c s =
-    as-sets (λ v. union (minus (getD v 0 0) (minus (getD v 1 0) (getD v 2 0))) (getD v 2 0)) (λ v. union (minus (getD v 0 0) (getD v 1 0)) (getD v 2 0))
+    as-sets (λ v. union (minus (getD v 0 0) (minus (getD v 1 0) (getD v 2 0))) (getD v 2 0))
+    (λ v. union (minus (getD v 0 0) (getD v 1 0)) (getD v 2 0))
     (x ∷ c ∷ s ∷ []) (λ i. simp at-digit) (λ i. simp at-digit) refl
 
 gives-sorted : (r : Record) (m : Marking) → lacks r m ≡ 0 → gives (sorted r) m ≡ gives r m

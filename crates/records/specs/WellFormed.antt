@@ -59,7 +59,8 @@ well-formed n r e =
     let sets = each (within n) (setsOf r) in
     let pairs = each empty (clashes r) in
     let rest = not (r .never) || each empty (setsOf r) in
-    let b = each-of (within n) (λ x. x < 2 ^ n) (λ x q. ltb-true x (2 ^ n) q) (setsOf r) (and-left sets pairs (and-left (sets && pairs) rest e)) in
+    let b = each-of (within n) (λ x. x < 2 ^ n) (λ x q. ltb-true x (2 ^ n) q) (setsOf r)
+    (and-left sets pairs (and-left (sets && pairs) rest e)) in
     let c = each-of empty (λ x. x ≡ 0) (λ x q. eqb-true x 0 q) (clashes r) (and-right sets pairs (and-left (sets && pairs) rest e)) in
     record {
       bounded =
@@ -79,7 +80,9 @@ well-formed n r e =
       inset-needin = c .1 .1 .1 .0;
       inset-inclear = c .1 .1 .1 .1 .0;
       dueset-dueclear = c .1 .1 .1 .1 .1 .0;
-      blank = λ on. blank on (each-of empty (λ x. x ≡ 0) (λ x q. eqb-true x 0 q) (setsOf r) (known (r .never) (each empty (setsOf r)) on (and-right (sets && pairs) rest e)));
+      blank = λ on. blank on
+          (each-of empty (λ x. x ≡ 0) (λ x q. eqb-true x 0 q) (setsOf r)
+          (known (r .never) (each empty (setsOf r)) on (and-right (sets && pairs) rest e)));
     }
   where
     known : (p q : Bool) → p ≡ true → (not p || q) ≡ true → q ≡ true
@@ -135,14 +138,17 @@ left-apart x y z =
 
 found-apart : (x y z : ℕ) → meet (union z (meet x y)) (minus y (union x z)) ≡ 0
 found-apart x y z =
-    as-sets (λ v. meet (union (getD v 2 0) (meet (getD v 0 0) (getD v 1 0))) (minus (getD v 1 0) (union (getD v 0 0) (getD v 2 0)))) (λ v. 0)
+    as-sets (λ v. meet (union (getD v 2 0) (meet (getD v 0 0) (getD v 1 0))) (minus (getD v 1 0) (union (getD v 0 0) (getD v 2 0))))
+    (λ v. 0)
     (x ∷ y ∷ z ∷ []) (λ i. simp at-digit) (λ i. simp at-digit) refl
 
 minus-apart : (x y : ℕ) → meet (minus x y) y ≡ 0
-minus-apart x y = as-sets (λ v. meet (minus (getD v 0 0) (getD v 1 0)) (getD v 1 0)) (λ v. 0) (x ∷ y ∷ []) (λ i. simp at-digit) (λ i. simp at-digit) refl
+minus-apart x y = as-sets (λ v. meet (minus (getD v 0 0) (getD v 1 0)) (getD v 1 0)) (λ v. 0) (x ∷ y ∷ []) (λ i. simp at-digit)
+    (λ i. simp at-digit) refl
 
 apart-minus : (x y : ℕ) → meet x (minus y x) ≡ 0
-apart-minus x y = as-sets (λ v. meet (getD v 0 0) (minus (getD v 1 0) (getD v 0 0))) (λ v. 0) (x ∷ y ∷ []) (λ i. simp at-digit) (λ i. simp at-digit) refl
+apart-minus x y = as-sets (λ v. meet (getD v 0 0) (minus (getD v 1 0) (getD v 0 0))) (λ v. 0) (x ∷ y ∷ []) (λ i. simp at-digit)
+    (λ i. simp at-digit) refl
 
 less-apart : (x y z : ℕ) → meet (minus x z) (minus y x) ≡ 0
 less-apart x y z =
@@ -205,7 +211,8 @@ allOf r = together (r .needin) (r .needex ∷ r .needout ∷ r .done ∷ r .dues
 abbrev pub clashOf : Record → ℕ
 clashOf r =
     together (meet (r .needin) (r .needout))
-    (meet (r .needex) (r .needout) ∷ meet (r .done) (r .needex) ∷ meet (r .inset) (r .needin) ∷ meet (r .inset) (r .inclear) ∷ meet (r .dueset) (r .dueclear) ∷ [])
+    (meet (r .needex) (r .needout) ∷ meet (r .done) (r .needex) ∷ meet (r .inset) (r .needin) ∷ meet (r .inset) (r .inclear)
+    ∷ meet (r .dueset) (r .dueclear) ∷ [])
 
 each-together : (p : ℕ → Bool) → ((a b : ℕ) → p (union a b) ≡ (p a && p b)) → (x : ℕ) (ys : List ℕ) → p (together x ys) ≡ each p (x ∷ ys)
 unfolding each
@@ -214,7 +221,8 @@ each-together p h x [] = sym (and-true (p x))
     and-true : (q : Bool) → (q && true) ≡ q
     and-true true = refl
     and-true false = refl
-each-together p h x (y ∷ ys) = each-together p h (union x y) ys ∙ ap (λ (q : Bool). q && each p ys) (h x y) ∙ regroup (p x) (p y) (each p ys)
+each-together p h x (y ∷ ys) = each-together p h (union x y) ys ∙ ap (λ (q : Bool). q && each p ys) (h x y)
+    ∙ regroup (p x) (p y) (each p ys)
   where
     regroup : (q s t : Bool) → (q && s && t) ≡ (q && (s && t))
     regroup true s t = refl
@@ -222,9 +230,13 @@ each-together p h x (y ∷ ys) = each-together p h (union x y) ys ∙ ap (λ (q 
 
 -- a record is well-formed exactly if all its sets together are within the steps, its clashes together are empty, and so are
 -- its sets where never is on
-pub well-formed-sum : (n : ℕ) (r : Record) → (leb (allOf r) (full n) && empty (clashOf r) && (not (r .never) || empty (allOf r))) ≡ wellFormed n r
+pub well-formed-sum : (n : ℕ) (r : Record)
+    → (leb (allOf r) (full n) && empty (clashOf r) && (not (r .never) || empty (allOf r))) ≡ wellFormed n r
 unfolding wellFormed
 well-formed-sum n r =
-    ap (λ (p : Bool). p && empty (clashOf r) && (not (r .never) || empty (allOf r))) (within-full n (allOf r) ∙ each-together (within n) (within-union n) (r .needin) _)
-    ∙ ap (λ (p : Bool). each (within n) (setsOf r) && p && (not (r .never) || empty (allOf r))) (each-together empty empty-union (meet (r .needin) (r .needout)) _)
-    ∙ ap (λ (p : Bool). each (within n) (setsOf r) && each empty (clashes r) && (not (r .never) || p)) (each-together empty empty-union (r .needin) _)
+    ap (λ (p : Bool). p && empty (clashOf r) && (not (r .never) || empty (allOf r)))
+    (within-full n (allOf r) ∙ each-together (within n) (within-union n) (r .needin) _)
+    ∙ ap (λ (p : Bool). each (within n) (setsOf r) && p && (not (r .never) || empty (allOf r)))
+    (each-together empty empty-union (meet (r .needin) (r .needout)) _)
+    ∙ ap (λ (p : Bool). each (within n) (setsOf r) && each empty (clashes r) && (not (r .never) || p))
+    (each-together empty empty-union (r .needin) _)

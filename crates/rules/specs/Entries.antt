@@ -37,7 +37,8 @@ pub moved-clear : (g : Graph) (m m″ : Marking) (e : Entry) → theMove g m e �
 unfolding theMove
 moved-clear g m m″ e q = moved-of (first (moveLines g m e)) m (after (rowOf g (e .person) (e .step .0)) m (e .step .0)) m″ q .0
 
-pub moved-after : (g : Graph) (m m″ : Marking) (e : Entry) → theMove g m e ≡ Move.Moved m″ → after (rowOf g (e .person) (e .step .0)) m (e .step .0) ≡ m″
+pub moved-after : (g : Graph) (m m″ : Marking) (e : Entry) → theMove g m e ≡ Move.Moved m″
+    → after (rowOf g (e .person) (e .step .0)) m (e .step .0) ≡ m″
 unfolding theMove
 moved-after g m m″ e q = moved-of (first (moveLines g m e)) m (after (rowOf g (e .person) (e .step .0)) m (e .step .0)) m″ q .1
 
@@ -62,7 +63,8 @@ entry-after g m next e q =
     (not-false (known g e) (clear-head _ _ (clear .0)), clear .1)
 
 -- an entry that is not gives back the marking handed in
-pub entry-back : (g : Graph) (m back : Marking) (e : Entry) (r : Refusal) → entryMove g m e ≡ Move.Refused r back → (11 ≤ numberOf r) × (m ≡ back)
+pub entry-back : (g : Graph) (m back : Marking) (e : Entry) (r : Refusal) → entryMove g m e ≡ Move.Refused r back → (11 ≤ numberOf r)
+    × (m ≡ back)
 unfolding entryMove ascends numberOf
 entry-back g m back e r q =
     let against = refused-of (first (entryLines g m e)) m (after (rowOf g (e .person) (e .step .0)) m (e .step .0)) back r q in
@@ -71,7 +73,8 @@ entry-back g m back e r q =
     (high, ap (λ (b : Bool). cond b m noMarking) (sym (le-leb 11 (numberOf r) high)) ∙ against .1)
 
 -- an allowed entry keeps the marking within the graph
-pub entry-inside : (g : Graph) (m next : Marking) (e : Entry) → Sound g → Inside (g .steps) m → entryMove g m e ≡ Move.Moved next → Inside (g .steps) next
+pub entry-inside : (g : Graph) (m next : Marking) (e : Entry) → Sound g → Inside (g .steps) m → entryMove g m e ≡ Move.Moved next
+    → Inside (g .steps) next
 entry-inside g m next e sound i q =
     let taken = entry-after g m next e q in
     subst (Inside (g .steps)) (taken .1) (after-inside g m (e .person) (e .step .0) sound (known-step g e (taken .0)) i)

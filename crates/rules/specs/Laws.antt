@@ -23,7 +23,8 @@ use Rattle.tables.specs.Laws.{Counted, counts-bound}
 
 -- a graph with nothing against it has counts that fit
 pub clear-counts : (g : Graph) → graphVerdict g ≡ Verdict.Clear → Counted (g .steps) (g .people) (g .roles)
-clear-counts g e = counts-bound (g .steps) (g .people) (g .roles) (not-false (countsFit (g .steps) (g .people) (g .roles)) (clear-head _ _ e))
+clear-counts g e = counts-bound (g .steps) (g .people) (g .roles)
+    (not-false (countsFit (g .steps) (g .people) (g .roles)) (clear-head _ _ e))
 
 -- ---- the answers, by what is found of the graph and the marking
 
@@ -40,30 +41,36 @@ graph-low : (g : Graph) (r : Refusal) → graphVerdict g ≡ Verdict.Refused r �
 unfolding numbersBelow numberOf
 graph-low g r e = lt-leb 11 (numberOf r) (let h : numberOf r < 7 = first-below 7 (graphLines g) r refl e in omega arith)
 
-pub move-refused : (g : Graph) (m : Marking) (e : Entry) (r : Refusal) → graphVerdict g ≡ Verdict.Refused r → theMove g m e ≡ Move.Refused r noMarking
+pub move-refused : (g : Graph) (m : Marking) (e : Entry) (r : Refusal) → graphVerdict g ≡ Verdict.Refused r
+    → theMove g m e ≡ Move.Refused r noMarking
 unfolding theMove moveOf
 move-refused g m e r q =
-    ap (λ (v : Verdict). moveOf v m (after (rowOf g (e .person) (e .step .0)) m (e .step .0))) (first-refused (graphLines g) (markingLines g m ++ entryLines g m e) r q)
+    ap (λ (v : Verdict). moveOf v m (after (rowOf g (e .person) (e .step .0)) m (e .step .0)))
+    (first-refused (graphLines g) (markingLines g m ++ entryLines g m e) r q)
     ∙ ap (λ (b : Bool). Move.Refused r (cond b m noMarking)) (graph-low g r q)
 
 pub move-clear : (g : Graph) (m : Marking) (e : Entry) → graphVerdict g ≡ Verdict.Clear → theMove g m e ≡ moveOn g m e
 unfolding theMove moveOn
 move-clear g m e q =
-    ap (λ (v : Verdict). moveOf v m (after (rowOf g (e .person) (e .step .0)) m (e .step .0))) (first-clear (graphLines g) (markingLines g m ++ entryLines g m e) q)
+    ap (λ (v : Verdict). moveOf v m (after (rowOf g (e .person) (e .step .0)) m (e .step .0)))
+    (first-clear (graphLines g) (markingLines g m ++ entryLines g m e) q)
 
 pub on-outside : (g : Graph) (m : Marking) (e : Entry) → markingFits (g .steps) m ≡ false → moveOn g m e ≡ Move.Refused Outside noMarking
 unfolding moveOn moveOf numberOf
-on-outside g m e f = ap (λ (v : Verdict). moveOf v m (after (rowOf g (e .person) (e .step .0)) m (e .step .0))) (outside (g .steps) m (entryLines g m e) f)
+on-outside g m e f = ap (λ (v : Verdict). moveOf v m (after (rowOf g (e .person) (e .step .0)) m (e .step .0)))
+    (outside (g .steps) m (entryLines g m e) f)
 
 pub on-inside : (g : Graph) (m : Marking) (e : Entry) → markingFits (g .steps) m ≡ true → moveOn g m e ≡ entryMove g m e
 unfolding moveOn entryMove
-on-inside g m e f = ap (λ (v : Verdict). moveOf v m (after (rowOf g (e .person) (e .step .0)) m (e .step .0))) (inside (g .steps) m (entryLines g m e) f)
+on-inside g m e f = ap (λ (v : Verdict). moveOf v m (after (rowOf g (e .person) (e .step .0)) m (e .step .0)))
+    (inside (g .steps) m (entryLines g m e) f)
 
 pub move-outside : (g : Graph) (m : Marking) (e : Entry) → graphVerdict g ≡ Verdict.Clear → markingFits (g .steps) m ≡ false
     → theMove g m e ≡ Move.Refused Outside noMarking
 move-outside g m e q f = move-clear g m e q ∙ on-outside g m e f
 
-pub move-inside : (g : Graph) (m : Marking) (e : Entry) → graphVerdict g ≡ Verdict.Clear → markingFits (g .steps) m ≡ true → theMove g m e ≡ entryMove g m e
+pub move-inside : (g : Graph) (m : Marking) (e : Entry) → graphVerdict g ≡ Verdict.Clear → markingFits (g .steps) m ≡ true
+    → theMove g m e ≡ entryMove g m e
 move-inside g m e q f = move-clear g m e q ∙ on-inside g m e f
 
 pub ending-refused : (g : Graph) (m : Marking) (r : Refusal) → graphVerdict g ≡ Verdict.Refused r → theEnding g m ≡ Ending.Refused r
@@ -89,6 +96,7 @@ unfolding entryMove first moveOf numberOf
 entry-unknown g m e k = simp k
 
 pub entry-known : (g : Graph) (m : Marking) (e : Entry) → known g e ≡ true
-    → entryMove g m e ≡ moveOf (first (rowLines (rowOf g (e .person) (e .step .0)) m e)) m (after (rowOf g (e .person) (e .step .0)) m (e .step .0))
+    → entryMove g m e ≡ moveOf (first (rowLines (rowOf g (e .person) (e .step .0)) m e)) m
+    (after (rowOf g (e .person) (e .step .0)) m (e .step .0))
 unfolding entryMove first
 entry-known g m e k = simp k

@@ -61,12 +61,15 @@ three-of true true false f = sym (f refl refl)
 three-of true false r f = refl
 three-of false q r f = refl
 
-has-waits : (conditions : ℕ) (m : Marking) (a : ℕ) → has (waitsFor conditions m) a ≡ ((has conditions a && has (m .included) a) && not (has (m .done) a))
+has-waits : (conditions : ℕ) (m : Marking) (a : ℕ)
+    → has (waitsFor conditions m) a ≡ ((has conditions a && has (m .included) a) && not (has (m .done) a))
 has-waits conditions m a =
-    has-minus (meet conditions (m .included)) (m .done) a ∙ ap (λ (b : Bool). b && not (has (m .done) a)) (has-meet conditions (m .included) a)
+    has-minus (meet conditions (m .included)) (m .done) a
+    ∙ ap (λ (b : Bool). b && not (has (m .done) a)) (has-meet conditions (m .included) a)
 
 -- nothing is against an entry that is known exactly if the definitions allow it
-pub lines-allowed : (g : Graph) (m : Marking) (e : Entry) → first (rowLines (rowOf g (e .person) (e .step .0)) m e) ≡ Verdict.Clear → Allowed g m e
+pub lines-allowed : (g : Graph) (m : Marking) (e : Entry) → first (rowLines (rowOf g (e .person) (e .step .0)) m e) ≡ Verdict.Clear
+    → Allowed g m e
 lines-allowed g m e c =
     let c2 = clear-tail _ _ c in
     let c3 = clear-tail _ _ c2 in
@@ -78,10 +81,12 @@ lines-allowed g m e c =
       conditions = λ a i r.
           three (condition g a (e .step .0)) (has (m .included) a) (has (m .done) a)
           (sym (has-waits (conditionsOf g (e .step .0)) m a)
-          ∙ empty-members (waitsFor (conditionsOf g (e .step .0)) m) (not-false (empty (waitsFor (conditionsOf g (e .step .0)) m)) (clear-head _ _ c4)) a) i r;
+          ∙ empty-members (waitsFor (conditionsOf g (e .step .0)) m)
+          (not-false (empty (waitsFor (conditionsOf g (e .step .0)) m)) (clear-head _ _ c4)) a) i r;
     }
 
-pub allowed-lines : (g : Graph) (m : Marking) (e : Entry) → Allowed g m e → first (rowLines (rowOf g (e .person) (e .step .0)) m e) ≡ Verdict.Clear
+pub allowed-lines : (g : Graph) (m : Marking) (e : Entry) → Allowed g m e
+    → first (rowLines (rowOf g (e .person) (e .step .0)) m e) ≡ Verdict.Clear
 unfolding first
 allowed-lines g m e w =
     let none : empty (waitsFor (conditionsOf g (e .step .0)) m) ≡ true =
@@ -103,7 +108,8 @@ pub moved-allowed : (g : Graph) (m x : Marking) (e : Entry) → theMove g m e �
 moved-allowed g m x e q =
     let c : first (moveLines g m e) ≡ Verdict.Clear = moved-clear g m x e q in
     let graph : graphVerdict g ≡ Verdict.Clear = clear-front (graphLines g) (markingLines g m ++ entryLines g m e) c in
-    let rest : first (markingLines g m ++ entryLines g m e) ≡ Verdict.Clear = sym (first-clear (graphLines g) (markingLines g m ++ entryLines g m e) graph) ∙ c in
+    let rest : first (markingLines g m ++ entryLines g m e) ≡ Verdict.Clear =
+    sym (first-clear (graphLines g) (markingLines g m ++ entryLines g m e) graph) ∙ c in
     let entry : first (entryLines g m e) ≡ Verdict.Clear = clear-tail _ _ rest in (
       record {
         graph = graph;
@@ -184,10 +190,13 @@ both-not true q f = f refl
 both-not false q f = refl
 
 pub finished-apart : (m : Marking) → isFinished m ≡ true → (s : ℕ) → has (m .due) s ≡ true → has (m .included) s ≡ false
-finished-apart m e s = not-both (has (m .due) s) (has (m .included) s) (sym (has-meet (m .due) (m .included) s) ∙ empty-members (meet (m .due) (m .included)) e s)
+finished-apart m e s =
+    not-both (has (m .due) s) (has (m .included) s)
+    (sym (has-meet (m .due) (m .included) s) ∙ empty-members (meet (m .due) (m .included)) e s)
 
 pub apart-finished : (m : Marking) → ((s : ℕ) → has (m .due) s ≡ true → has (m .included) s ≡ false) → isFinished m ≡ true
-apart-finished m f = members-empty (meet (m .due) (m .included)) (λ s. has-meet (m .due) (m .included) s ∙ both-not (has (m .due) s) (has (m .included) s) (f s))
+apart-finished m f = members-empty (meet (m .due) (m .included))
+    (λ s. has-meet (m .due) (m .included) s ∙ both-not (has (m .due) s) (has (m .included) s) (f s))
 
 -- ---- what the slips would break
 
@@ -210,14 +219,16 @@ own-response g m p e r = after-due g m p e e ∙ or-second (has (m .due) e && no
 
 -- a step that excludes itself is out after it is done
 pub own-exclude : (g : Graph) (m : Marking) (p e : ℕ) → excludes g e e ≡ true → has (after (rowOf g p e) m e .included) e ≡ false
-own-exclude g m p e r = after-included g m p e e ∙ ap (λ (b : Bool). (has (m .included) e || includes g e e) && not b) r ∙ and-no (has (m .included) e || includes g e e)
+own-exclude g m p e r = after-included g m p e e ∙ ap (λ (b : Bool). (has (m .included) e || includes g e e) && not b) r
+    ∙ and-no (has (m .included) e || includes g e e)
   where
     and-no : (b : Bool) → (b && false) ≡ false
     and-no true = refl
     and-no false = refl
 
 -- a step that includes itself, and does not exclude itself, is in after it is done
-pub own-include : (g : Graph) (m : Marking) (p e : ℕ) → includes g e e ≡ true → excludes g e e ≡ false → has (after (rowOf g p e) m e .included) e ≡ true
+pub own-include : (g : Graph) (m : Marking) (p e : ℕ) → includes g e e ≡ true → excludes g e e ≡ false
+    → has (after (rowOf g p e) m e .included) e ≡ true
 own-include g m p e r x =
     after-included g m p e e ∙ ap₂ (λ (a b : Bool). a && not b) (or-second (has (m .included) e) (includes g e e) r) x
 

@@ -33,7 +33,8 @@ pub clear-sound : (g : Graph) → graphVerdict g ≡ Verdict.Clear → Sound g
 unfolding setsFit
 clear-sound g e =
     let fit : setsFit g ≡ true = not-false (setsFit g) (clear-head _ _ (clear-tail _ _ e)) in
-    let alone : kindsApart (g .steps) (g .includes) (g .excludes) ≡ true = not-false (kindsApart (g .steps) (g .includes) (g .excludes)) (clear-head _ _ (clear-tail _ _ (clear-tail _ _ e))) in
+    let alone : kindsApart (g .steps) (g .includes) (g .excludes) ≡ true =
+    not-false (kindsApart (g .steps) (g .includes) (g .excludes)) (clear-head _ _ (clear-tail _ _ (clear-tail _ _ e))) in
     let a = keeps (g .steps) (g .roles) (g .allows) in
     let h = keeps (g .people) (g .roles) (g .holds) in
     let c = keeps (g .steps) (g .steps) (g .conditions) in
@@ -58,11 +59,14 @@ clear-sound g e =
 -- ---- markings within the graph
 
 -- a step keeps the marking within the graph
-pub after-inside : (g : Graph) (m : Marking) (p s : ℕ) → Sound g → s < g .steps → Inside (g .steps) m → Inside (g .steps) (after (rowOf g p s) m s)
+pub after-inside : (g : Graph) (m : Marking) (p s : ℕ) → Sound g → s < g .steps → Inside (g .steps) m
+    → Inside (g .steps) (after (rowOf g p s) m s)
 after-inside g m p s sound known i =
     let n = g .steps in
     record {
       done-in = union-lt n (m .done) (single s) (i .done-in) (single-lt n s known);
-      due-in = union-lt n (minus (m .due) (single s)) (responsesOf g s) (minus-lt n (m .due) (single s) (i .due-in)) (sound .responses-in s);
-      included-in = minus-lt n (union (m .included) (includesOf g s)) (excludesOf g s) (union-lt n (m .included) (includesOf g s) (i .included-in) (sound .includes-in s));
+      due-in = union-lt n (minus (m .due) (single s)) (responsesOf g s) (minus-lt n (m .due) (single s) (i .due-in))
+          (sound .responses-in s);
+      included-in = minus-lt n (union (m .included) (includesOf g s)) (excludesOf g s)
+          (union-lt n (m .included) (includesOf g s) (i .included-in) (sound .includes-in s));
     }

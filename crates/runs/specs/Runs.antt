@@ -36,13 +36,15 @@ unfoldable pub andThen : Ran → (Marking → ℕ → Ran) → Ran
 andThen (Ran.Ended m k) second = second m k
 andThen (Ran.Stopped k r m) second = Ran.Stopped k r m
 
-pub run-append : (g : Graph) (m : Marking) (k : ℕ) (a b : List Entry) → runFrom g m k (a ++ b) ≡ andThen (runFrom g m k a) (λ m′ k′. runFrom g m′ k′ b)
+pub run-append : (g : Graph) (m : Marking) (k : ℕ) (a b : List Entry)
+    → runFrom g m k (a ++ b) ≡ andThen (runFrom g m k a) (λ m′ k′. runFrom g m′ k′ b)
 unfolding runFrom goOn andThen
 run-append g m k [] b = refl
 run-append g m k (e ∷ a) b = go (theMove g m e) (λ next. run-append g next (k + 1) a b)
   where
     go : (o : Move) → ((next : Marking) → runFrom g next (k + 1) (a ++ b) ≡ andThen (runFrom g next (k + 1) a) (λ m′ k′. runFrom g m′ k′ b))
-        → goOn k m o (λ next. runFrom g next (k + 1) (a ++ b)) ≡ andThen (goOn k m o (λ next. runFrom g next (k + 1) a)) (λ m′ k′. runFrom g m′ k′ b)
+        → goOn k m o (λ next. runFrom g next (k + 1) (a ++ b)) ≡ andThen (goOn k m o (λ next. runFrom g next (k + 1) a))
+        (λ m′ k′. runFrom g m′ k′ b)
     go (Move.Moved next) rest = rest next
     go (Move.Refused r back) rest = refl
 
@@ -75,19 +77,22 @@ pub record StopsAt (g : Graph) (m : Marking) (es : List Entry) (k : ℕ) (r : Re
   pub refused : (d : Entry) → theMove g m′ (getD es k d) ≡ Move.Refused r m′
 
 -- a run ends exactly if all pass
-pub run-passes : (g : Graph) (m m′ : Marking) (k n : ℕ) (es : List Entry) → runFrom g m k es ≡ Ran.Ended m′ n → (n ≡ k + length es) × Passes g m es m′
+pub run-passes : (g : Graph) (m m′ : Marking) (k n : ℕ) (es : List Entry) → runFrom g m k es ≡ Ran.Ended m′ n → (n ≡ k + length es)
+    × Passes g m es m′
 unfolding runFrom goOn Passes
 run-passes g m m′ k n [] e = (let a : k ≡ n = cc in let z : n ≡ k + 0 = omega arith in z, cc)
 run-passes g m m′ k n (x ∷ rest) e = go (theMove g m x) refl (λ next. run-passes g next m′ (k + 1) n rest)
   where
-    go : (o : Move) → theMove g m x ≡ o → ((next : Marking) → runFrom g next (k + 1) rest ≡ Ran.Ended m′ n → (n ≡ k + 1 + length rest) × Passes g next rest m′)
+    go : (o : Move) → theMove g m x ≡ o
+        → ((next : Marking) → runFrom g next (k + 1) rest ≡ Ran.Ended m′ n → (n ≡ k + 1 + length rest) × Passes g next rest m′)
         → (n ≡ k + suc (length rest)) × ((next : Marking) × (theMove g m x ≡ Move.Moved next) × Passes g next rest m′)
     go (Move.Moved next) q more =
         let f = more next (ap (λ (o : Move). goOn k m o (λ y. runFrom g y (k + 1) rest)) (sym q) ∙ e) in
         let count : n ≡ k + 1 + length rest = f .0 in
         (let z : n ≡ k + suc (length rest) = omega arith in z, (next, q, f .1))
     go (Move.Refused r back) q more =
-        absurd (let s : Ran.Stopped k r m ≡ Ran.Ended m′ n = ap (λ (o : Move). goOn k m o (λ y. runFrom g y (k + 1) rest)) (sym q) ∙ e in let z : _≡_ {A = ℕ} 0 1 = cc in let w : ⊥ = omega arith in w)
+        absurd (let s : Ran.Stopped k r m ≡ Ran.Ended m′ n = ap (λ (o : Move). goOn k m o (λ y. runFrom g y (k + 1) rest)) (sym q) ∙ e in
+        let z : _≡_ {A = ℕ} 0 1 = cc in let w : ⊥ = omega arith in w)
 
 pub passes-run : (g : Graph) (m m′ : Marking) (k : ℕ) (es : List Entry) → Passes g m es m′ → runFrom g m k es ≡ Ran.Ended m′ (k + length es)
 unfolding runFrom goOn Passes
@@ -98,7 +103,8 @@ passes-run g m m′ k (e ∷ rest) p =
     ∙ ap (Ran.Ended m′) (let z : k + 1 + length rest ≡ k + suc (length rest) = omega arith in z)
 
 -- a run that stops stops at the first entry not allowed
-pub run-stops : (g : Graph) (m m′ : Marking) (k n : ℕ) (r : Refusal) (es : List Entry) → graphVerdict g ≡ Verdict.Clear → Inside (g .steps) m
+pub run-stops : (g : Graph) (m m′ : Marking) (k n : ℕ) (r : Refusal) (es : List Entry) → graphVerdict g ≡ Verdict.Clear
+    → Inside (g .steps) m
     → runFrom g m k es ≡ Ran.Stopped n r m′ → (i : ℕ) × (n ≡ k + i) × StopsAt g m es i r m′
 unfolding runFrom goOn Passes
 run-stops g m m′ k n r [] clear within e = absurd (let z : _≡_ {A = ℕ} 0 1 = cc in let w : ⊥ = omega arith in w)
@@ -108,25 +114,36 @@ run-stops g m m′ k n r (x ∷ rest) clear within e = go (theMove g m x) refl (
     by-entry = move-inside g m x clear (inside-fits (g .steps) m within)
 
     go : (o : Move) → theMove g m x ≡ o
-        → ((next : Marking) → Inside (g .steps) next → runFrom g next (k + 1) rest ≡ Ran.Stopped n r m′ → (i : ℕ) × (n ≡ k + 1 + i) × StopsAt g next rest i r m′)
+        → ((next : Marking) → Inside (g .steps) next → runFrom g next (k + 1) rest ≡ Ran.Stopped n r m′ → (i : ℕ) × (n ≡ k + 1 + i)
+        × StopsAt g next rest i r m′)
         → (i : ℕ) × (n ≡ k + i) × StopsAt g m (x ∷ rest) i r m′
     go (Move.Moved next) q more =
-        let f = more next (entry-inside g m next x (clear-sound g clear) within (sym by-entry ∙ q)) (ap (λ (o : Move). goOn k m o (λ y. runFrom g y (k + 1) rest)) (sym q) ∙ e) in
+        let f = more next (entry-inside g m next x (clear-sound g clear) within (sym by-entry ∙ q))
+        (ap (λ (o : Move). goOn k m o (λ y. runFrom g y (k + 1) rest)) (sym q) ∙ e) in
         let count : n ≡ k + 1 + f .0 = f .1 in
         let low : f .0 < length rest = f .2 .small in (
           suc (f .0),
           let z : n ≡ k + suc (f .0) = omega arith in z,
-          record { small = (let z : suc (f .0) < suc (length rest) = omega arith in z); before = (next, q, f .2 .before); refused = f .2 .refused },
+          record {
+            small = (let z : suc (f .0) < suc (length rest) = omega arith in z);
+            before = (next, q, f .2 .before);
+            refused =
+                f .2 .refused;
+          },
         )
     go (Move.Refused p back) q more =
         let s : Ran.Stopped k p m ≡ Ran.Stopped n r m′ = ap (λ (o : Move). goOn k m o (λ y. runFrom g y (k + 1) rest)) (sym q) ∙ e in
         let here : k ≡ n = cc in
         let why : p ≡ r = cc in
         let left : m ≡ m′ = cc in
-        let same : m ≡ back = entry-back g m back x p (sym by-entry ∙ q) .1 in
-        (0, let z : n ≡ k + 0 = omega arith in z, record { small = (let z : 0 < suc (length rest) = omega arith in z); before = left; refused = λ d. cc })
+        let same : m ≡ back = entry-back g m back x p (sym by-entry ∙ q) .1 in (
+          0,
+          let z : n ≡ k + 0 = omega arith in z,
+          record { small = (let z : 0 < suc (length rest) = omega arith in z); before = left; refused = λ d. cc },
+        )
 
-pub stops-run : (g : Graph) (m m′ : Marking) (k i : ℕ) (r : Refusal) (es : List Entry) → StopsAt g m es i r m′ → runFrom g m k es ≡ Ran.Stopped (k + i) r m′
+pub stops-run : (g : Graph) (m m′ : Marking) (k i : ℕ) (r : Refusal) (es : List Entry) → StopsAt g m es i r m′
+    → runFrom g m k es ≡ Ran.Stopped (k + i) r m′
 unfolding runFrom goOn Passes
 stops-run g m m′ k i r [] s = absurd (let low : i < 0 = s .small in let w : ⊥ = omega arith in w)
 stops-run g m m′ k zero r (e ∷ rest) s =
@@ -136,7 +153,8 @@ stops-run g m m′ k zero r (e ∷ rest) s =
 stops-run g m m′ k (suc i) r (e ∷ rest) s =
     let low : suc i < suc (length rest) = s .small in
     ap (λ (o : Move). goOn k m o (λ y. runFrom g y (k + 1) rest)) (s .before .1)
-    ∙ stops-run g (s .before .0) m′ (k + 1) i r rest (record { small = (let z : i < length rest = omega arith in z); before = s .before .2; refused = s .refused })
+    ∙ stops-run g (s .before .0) m′ (k + 1) i r rest
+    (record { small = (let z : i < length rest = omega arith in z); before = s .before .2; refused = s .refused })
     ∙ ap (λ (x : ℕ). Ran.Stopped x r m′) (let z : k + 1 + i ≡ k + suc i = omega arith in z)
 
 -- ---- the marking a run leaves
@@ -147,9 +165,11 @@ unfolding runFrom goOn markingOfRun
 run-within g m k [] clear i = i
 run-within g m k (e ∷ rest) clear i = go (theMove g m e) refl (λ next. run-within g next (k + 1) rest clear)
   where
-    go : (o : Move) → theMove g m e ≡ o → ((next : Marking) → Inside (g .steps) next → Inside (g .steps) (markingOfRun (runFrom g next (k + 1) rest)))
+    go : (o : Move) → theMove g m e ≡ o
+        → ((next : Marking) → Inside (g .steps) next → Inside (g .steps) (markingOfRun (runFrom g next (k + 1) rest)))
         → Inside (g .steps) (markingOfRun (goOn k m o (λ y. runFrom g y (k + 1) rest)))
-    go (Move.Moved next) q more = more next (entry-inside g m next e (clear-sound g clear) i (sym (move-inside g m e clear (inside-fits (g .steps) m i)) ∙ q))
+    go (Move.Moved next) q more =
+        more next (entry-inside g m next e (clear-sound g clear) i (sym (move-inside g m e clear (inside-fits (g .steps) m i)) ∙ q))
     go (Move.Refused r back) q more = i
 
 -- ---- the same of a journal
@@ -181,7 +201,8 @@ ended-passes g m m′ n j e = go (first (runLines g m j)) refl
         let count : n ≡ 0 + length (entries j) = p .0 in
         (ready g m j q, let z : n ≡ length (entries j) = omega arith in z, p .1)
     go (Verdict.Refused r) q =
-        absurd (let s : Ran.Stopped 0 r noMarking ≡ Ran.Ended m′ n = ap (λ (v : Verdict). runOf v (runFrom g m 0 (entries j))) (sym q) ∙ e in let z : _≡_ {A = ℕ} 0 1 = cc in let w : ⊥ = omega arith in w)
+        absurd (let s : Ran.Stopped 0 r noMarking ≡ Ran.Ended m′ n = ap (λ (v : Verdict). runOf v (runFrom g m 0 (entries j))) (sym q)
+        ∙ e in let z : _≡_ {A = ℕ} 0 1 = cc in let w : ⊥ = omega arith in w)
 
 -- a run that stops at an entry stops at the first not allowed
 pub stopped-first : (g : Graph) (m m′ : Marking) (n : ℕ) (r : Refusal) (j : List ℕ) → theRun g m j ≡ Ran.Stopped n r m′ → 11 ≤ numberOf r
@@ -192,7 +213,8 @@ stopped-first g m m′ n r j e high = go (first (runLines g m j)) refl
     go : (v : Verdict) → first (runLines g m j) ≡ v → Ready g m j × StopsAt g m (entries j) n r m′
     go Verdict.Clear q =
         let known = ready g m j q in
-        let s = run-stops g m m′ 0 n r (entries j) (known .clear) (fits-inside (g .steps) m (known .within)) (ap (λ (v : Verdict). runOf v (runFrom g m 0 (entries j))) (sym q) ∙ e) in
+        let s = run-stops g m m′ 0 n r (entries j) (known .clear) (fits-inside (g .steps) m (known .within))
+        (ap (λ (v : Verdict). runOf v (runFrom g m 0 (entries j))) (sym q) ∙ e) in
         let place : n ≡ 0 + s .0 = s .1 in
         (known, subst (λ (x : ℕ). StopsAt g m (entries j) x r m′) (let z : s .0 ≡ n = omega arith in z) (s .2))
     go (Verdict.Refused p) q =
@@ -242,7 +264,8 @@ journals-append g m a b fa fab = graph (graphVerdict g) refl
         ∙ ap (later n) (sym (run-clear g m′ b clear fb (inside-fits (g .steps) m′ i)))
     second clear (Ran.Stopped k r m′) i = refl
 
-    marking : graphVerdict g ≡ Verdict.Clear → (t : Bool) → markingFits (g .steps) m ≡ t → theRun g m (a ++ b) ≡ andThen (theRun g m a) (λ m′ n. later n (theRun g m′ b))
+    marking : graphVerdict g ≡ Verdict.Clear → (t : Bool) → markingFits (g .steps) m ≡ t
+        → theRun g m (a ++ b) ≡ andThen (theRun g m a) (λ m′ n. later n (theRun g m′ b))
     marking clear true p =
         run-clear g m (a ++ b) clear fab p
         ∙ ap (runFrom g m 0) (entries-append a b (fits-threes a fa))
@@ -250,8 +273,10 @@ journals-append g m a b fa fab = graph (graphVerdict g) refl
         ∙ second clear (runFrom g m 0 (entries a)) (run-within g m 0 (entries a) clear (fits-inside (g .steps) m p))
         ∙ ap (λ (v : Ran). andThen v (λ m′ n. later n (theRun g m′ b))) (sym (run-clear g m a clear fa p))
     marking clear false p =
-        run-outside g m (a ++ b) clear fab p ∙ ap (λ (v : Ran). andThen v (λ m′ n. later n (theRun g m′ b))) (sym (run-outside g m a clear fa p))
+        run-outside g m (a ++ b) clear fab p
+        ∙ ap (λ (v : Ran). andThen v (λ m′ n. later n (theRun g m′ b))) (sym (run-outside g m a clear fa p))
 
     graph : (v : Verdict) → graphVerdict g ≡ v → theRun g m (a ++ b) ≡ andThen (theRun g m a) (λ m′ n. later n (theRun g m′ b))
     graph Verdict.Clear q = marking q (markingFits (g .steps) m) refl
-    graph (Verdict.Refused r) q = run-graph g m (a ++ b) r q ∙ ap (λ (v : Ran). andThen v (λ m′ n. later n (theRun g m′ b))) (sym (run-graph g m a r q))
+    graph (Verdict.Refused r) q = run-graph g m (a ++ b) r q
+        ∙ ap (λ (v : Ran). andThen v (λ m′ n. later n (theRun g m′ b))) (sym (run-graph g m a r q))

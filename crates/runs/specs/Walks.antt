@@ -72,12 +72,14 @@ stopped-walk g m m′ k r j e high =
     )
 
 -- where a run ends, the walk has handed out what passed, and says so
-pub ended-walk : (g : Graph) (m m′ : Marking) (n : ℕ) (j : List ℕ) → theRun g m j ≡ Ran.Ended m′ n → Passes g m (handed n j 0) m′ × (strideAt j n .said ≡ Walked.End)
+pub ended-walk : (g : Graph) (m m′ : Marking) (n : ℕ) (j : List ℕ) → theRun g m j ≡ Ran.Ended m′ n → Passes g m (handed n j 0) m′
+    × (strideAt j n .said ≡ Walked.End)
 ended-walk g m m′ n j e =
     let known = ended-passes g m m′ n j e in
     let count : length (entries j) * 3 ≡ length j = entries-length j (fits-threes j (known .0 .long)) in
     let all : n ≡ length (entries j) = known .1 in
     let past : length j ≤ 3 * n = omega arith in (
-      subst (λ (es : List Entry). Passes g m es m′) (sym (walk-hands n j 0 (known .0 .long) ∙ take-all n (entries j) (let z : length (entries j) ≤ n = omega arith in z))) (known .2),
+      subst (λ (es : List Entry). Passes g m es m′)
+          (sym (walk-hands n j 0 (known .0 .long) ∙ take-all n (entries j) (let z : length (entries j) ≤ n = omega arith in z))) (known .2),
       ap (λ (s : Stride). s .said) (walk-end j n (known .0 .long) past),
     )

@@ -20,7 +20,8 @@ use Rattle.laps.specs.Laps.{LapAnswer}
 use Rattle.laps.specs.Decision.{goOn, legOn, upon, secondLap, firstLap, decision, lapOf, theLap}
 use Rattle.laps.specs.Laws.{the-lap-right}
 use Rattle.tracker.specs.Tracker.{theStart, theStep, trackAfter, trackedOf}
-use Rattle.samples.specs.Job.{set, rows, targets, sources, table, given, job, start, entry, reboot, check, publish, rebooted, checked, at, tracking, journal, folded}
+use Rattle.samples.specs.Job.{set, rows, targets, sources, table, given, job, start, entry, reboot, check, publish, rebooted}
+use Rattle.samples.specs.Job.{checked, at, tracking, journal, folded}
 
 -- a sample: its number in document 01, and what it says
 abbrev pub Sample : Type 1
@@ -60,26 +61,40 @@ samples =
     -- S11: fold of reboot, publish: never
     ∷ (11, theFold job (journal (reboot ∷ publish ∷ [])) ≡ Recorded.Made impossible)
     -- S12: empty stem, lap of reboot alone: starved, step 1. Lap of reboot, check: accepted
-    ∷ (12, LapAnswer job start [] (journal (reboot ∷ [])) (Lapped.Starved (record { 0 = 1 })) × LapAnswer job start [] (journal (reboot ∷ check ∷ [])) Lapped.Accepted)
+    ∷ (
+      12,
+      LapAnswer job start [] (journal (reboot ∷ [])) (Lapped.Starved (record { 0 = 1 }))
+          × LapAnswer job start [] (journal (reboot ∷ check ∷ [])) Lapped.Accepted,
+    )
     -- S13: tracker from start, reboot: i 1, flag down; then check: i 2, flag up
-    ∷ (13, (tracking job (theStart job start) reboot ≡ at rebooted 1 false) × (tracking job (tracking job (theStart job start) reboot) check ≡ at checked 2 true))
+    ∷ (
+      13,
+      (tracking job (theStart job start) reboot ≡ at rebooted 1 false)
+          × (tracking job (tracking job (theStart job start) reboot) check ≡ at checked 2 true),
+    )
     ∷ []
 
 -- the laps of S12 are decided by computing, and the decision is right for the run without end
 starved : theLap job start [] (journal (reboot ∷ [])) ≡ Lapped.Starved (record { 0 = 1 })
-unfolding journal set rows targets sources table job first numberOf keeps setsFit has full scan lowest every goOn legOn upon secondLap firstLap decision lapOf theLap entryMove moveOf entries
+unfolding journal set rows targets sources table job first numberOf keeps setsFit has full scan lowest every goOn legOn upon secondLap
+    firstLap decision lapOf theLap entryMove moveOf entries
 starved = refl
 
 accepted : theLap job start [] (journal (reboot ∷ check ∷ [])) ≡ Lapped.Accepted
-unfolding journal set rows targets sources table job first numberOf keeps setsFit has full scan lowest every goOn legOn upon secondLap firstLap decision lapOf theLap entryMove moveOf entries
+unfolding journal set rows targets sources table job first numberOf keeps setsFit has full scan lowest every goOn legOn upon secondLap
+    firstLap decision lapOf theLap entryMove moveOf entries
 accepted = refl
 
-twelve : LapAnswer job start [] (journal (reboot ∷ [])) (Lapped.Starved (record { 0 = 1 })) × LapAnswer job start [] (journal (reboot ∷ check ∷ [])) Lapped.Accepted
+twelve : LapAnswer job start [] (journal (reboot ∷ [])) (Lapped.Starved (record { 0 = 1 }))
+    × LapAnswer job start [] (journal (reboot ∷ check ∷ [])) Lapped.Accepted
 twelve = (
   subst (LapAnswer job start [] (journal (reboot ∷ []))) starved (the-lap-right job start [] (journal (reboot ∷ []))),
   subst (LapAnswer job start [] (journal (reboot ∷ check ∷ []))) accepted (the-lap-right job start [] (journal (reboot ∷ check ∷ []))),
 )
 
 pub samples-hold : Hold samples
-unfolding samples set rows targets sources table job tracking first numberOf stepOf keeps setsFit theMove moveOf numberOfMove stepOfMove markingOfMove theStart theStep trackAfter trackedOf has full scan lowest every journal theFold recordedOf foldOf entryRecord tidy join entries
-samples-hold = refl also (refl, refl) also refl also (refl, refl) also refl also refl also refl also refl also refl also refl also refl also twelve also (refl, refl) also tt
+unfolding samples set rows targets sources table job tracking first numberOf stepOf keeps setsFit theMove moveOf numberOfMove stepOfMove
+    markingOfMove theStart theStep trackAfter trackedOf has full scan lowest every journal theFold recordedOf foldOf entryRecord tidy join
+    entries
+samples-hold = refl also (refl, refl) also refl also
+    (refl, refl) also refl also refl also refl also refl also refl also refl also refl also twelve also (refl, refl) also tt

@@ -1,14 +1,16 @@
 -- The laws of step sets, grouped by operation. All go through membership: `has` of each operation, and `ext`, two sets with
 -- the same members are the same number. None has a bound that it does not need. Assumes nothing.
 use Prim.Native.Nat.{ℕ, zero, suc, _+_, _-_, _*_, _/_, _%_, _^_, _≤_, _<_, zero-le, suc-le-suc}
-use native.Mathlib.Nat.{not-suc-le-zero, mod-lt, div-one, two-pow-succ, lt-of-lt-of-le, lt-of-le-of-lt, le-of-suc-le-suc, div-eq-of-lt, zero-div, one-mul, div-lt-iff-lt-mul, le-trans, le-refl, add-zero}
+use native.Mathlib.Nat.{not-suc-le-zero, mod-lt, div-one, two-pow-succ, lt-of-lt-of-le, lt-of-le-of-lt, le-of-suc-le-suc, div-eq-of-lt}
+use native.Mathlib.Nat.{zero-div, one-mul, div-lt-iff-lt-mul, le-trans, le-refl, add-zero}
 use native.Mathlib.Numerals.{add-one}
 use native.Mathlib.Omega.{arith}
 use native.Mathlib.Decide.{decLt}
 use mathlib.Core.Path.{_≡_, refl, sym, ap, ap₂, _∙_, subst, fun-ext}
 use mathlib.Core.Bool.{Bool, true, false, not, _&&_, _||_, cond, true≢false, false≢true}
 use lib.Dec.{eqb, ltb, leb, eqb·zero-suc, eqb·suc-zero, eqb·suc-suc, leb·suc-suc, lit<}
-use lib.Bits.{bitXor, and-shr, or-shr, xor-shr, and-mod, or-mod, xor-mod, or-lt, xor-lt, and-le-l, and-le-r, or-add-and, and-zero-r, xor-zero-r}
+use lib.Bits.{bitXor, and-shr, or-shr, xor-shr, and-mod, or-mod, xor-mod, or-lt, xor-lt, and-le-l, and-le-r, or-add-and, and-zero-r}
+use lib.Bits.{xor-zero-r}
 use lib.Count.{trailingZeros, under}
 use lib.Pow.{pow-pos, pow-mono, pow-lt, shr-shr, ones-lt, le-ones, lt-of-le-ones, shl-exact}
 use borrow.Author.Tests.{lt-ltb, le-ltb, eq-eqb, ne-eqb, eqb-true, ltb-true, le-leb, leb-true}
@@ -97,7 +99,8 @@ bits-equal (suc k) a b h l same =
     omega arith
 
 digit-of-test : (x y : ℕ) → x < 2 → y < 2 → eqb x 1 ≡ eqb y 1 → x ≡ y
-digit-of-test = on-digits (λ x y. eqb x 1 ≡ eqb y 1 → x ≡ y) (λ e. refl) (λ e. absurd (false≢true e)) (λ e. absurd (true≢false e)) (λ e. refl)
+digit-of-test = on-digits (λ x y. eqb x 1 ≡ eqb y 1 → x ≡ y) (λ e. refl) (λ e. absurd (false≢true e)) (λ e. absurd (true≢false e))
+    (λ e. refl)
 
 -- two sets with the same members are the same
 pub ext : (a b : ℕ) → ((s : ℕ) → has a s ≡ has b s) → a ≡ b
@@ -183,7 +186,8 @@ pub lt-of-members : (n x : ℕ) → ((s : ℕ) → n ≤ s → has x s ≡ false
 unfolding has
 lt-of-members n x none =
     let gone : x / 2 ^ n ≡ 0 =
-    ext (x / 2 ^ n) 0 (λ s. ap (λ (y : ℕ). eqb y 1) (bit-shift x n s) ∙ none (n + s) (let h : n ≤ n + s = omega arith in h) ∙ sym (has-zero s)) in
+    ext (x / 2 ^ n) 0 (λ s. ap (λ (y : ℕ). eqb y 1) (bit-shift x n s) ∙ none (n + s) (let h : n ≤ n + s = omega arith in h)
+    ∙ sym (has-zero s)) in
     let small : x / 2 ^ n < 1 = omega arith in
     let b : x < 1 * 2 ^ n = div-lt-iff-lt-mul (pow-pos n) .0 small in
     omega arith
@@ -228,7 +232,8 @@ within-union n a b =
     (λ e. let h : union a b < 2 ^ n = ltb-true (union a b) (2 ^ n) e in
     and-intro (lt-ltb a (2 ^ n) (lt-of-le-of-lt (union-le-left a b) h)) (lt-ltb b (2 ^ n) (lt-of-le-of-lt (union-le-right a b) h)))
     (λ e. lt-ltb (union a b) (2 ^ n)
-    (union-lt n a b (ltb-true a (2 ^ n) (and-left (within n a) (within n b) e)) (ltb-true b (2 ^ n) (and-right (within n a) (within n b) e))))
+    (union-lt n a b (ltb-true a (2 ^ n) (and-left (within n a) (within n b) e))
+    (ltb-true b (2 ^ n) (and-right (within n a) (within n b) e))))
 
 pub minus-zero : (x : ℕ) → minus x 0 ≡ x
 minus-zero x = ap (bitXor x) (and-zero-r x) ∙ xor-zero-r x
@@ -306,7 +311,8 @@ scan-least (suc k) s x none = go (has x s) refl (λ e. scan-least k (suc s) x (m
         pick (yes l) = none t l
         pick (no l) = ap (has x) (let z : t ≡ s = omega arith in z) ∙ e
 
-    go : (b : Bool) → has x s ≡ b → (has x s ≡ false → Least (k + suc s) x (scan k (suc s) x)) → Least (suc k + s) x (cond b s (scan k (suc s) x))
+    go : (b : Bool) → has x s ≡ b → (has x s ≡ false → Least (k + suc s) x (scan k (suc s) x))
+        → Least (suc k + s) x (cond b s (scan k (suc s) x))
     go true e rest = record { small = omega arith; none = none; here = λ h. e }
     go false e rest = subst (λ (n : ℕ). Least n x (scan k (suc s) x)) (let z : k + suc s ≡ suc k + s = omega arith in z) (rest e)
 
@@ -359,7 +365,12 @@ trailing-least zero x = record { small = zero-le; none = λ t h. absurd (not-suc
 trailing-least (suc n) x = go (x % 2) refl (trailing-least n (x / 2))
   where
     go : (d : ℕ) → x % 2 ≡ d → Least n (x / 2) (trailingZeros n (x / 2)) → Least (suc n) x (under d (trailingZeros n (x / 2)))
-    go zero e l = record { small = suc-le-suc (l .small); none = none; here = λ h. has-half x (trailingZeros n (x / 2)) ∙ l .here (le-of-suc-le-suc h) }
+    go zero e l = record {
+      small = suc-le-suc (l .small);
+      none = none;
+      here = λ h. has-half x (trailingZeros n (x / 2))
+          ∙ l .here (le-of-suc-le-suc h);
+    }
       where
         none : (t : ℕ) → t < suc (trailingZeros n (x / 2)) → has x t ≡ false
         none zero h = has-low x 0 e

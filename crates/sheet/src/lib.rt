@@ -8,13 +8,13 @@ use crate::refusals::judge;
 use crate::writing::arrow_count;
 use crate::writing::content;
 use crate::writing::fill;
-use rules::CONDITIONS;
-use rules::Job;
 use moves::Marking;
 use moves::NONE;
-use rules::RESPONSES;
 use moves::Refusal;
 use moves::Verdict;
+use rules::CONDITIONS;
+use rules::Job;
+use rules::RESPONSES;
 
 pub mod reading;
 pub mod refusals;

@@ -9,15 +9,15 @@ ghost use Rattle.numbers.specs.Numbers.{Spliced};
 ghost use Rattle.layout.specs.Layout.{front};
 ghost use Rattle.sheet.specs.Sheet.{contentLines};
 ghost use Rattle.sheet.specs.Write.{countWith, arrowsWith, sizesWritten, bodiesWith};
+use moves::Marking;
+use moves::Refusal;
+use moves::Verdict;
 use rules::ALLOWS;
 use rules::EXCLUDES;
 use rules::HOLDS;
 use rules::INCLUDES;
 use rules::Job;
-use moves::Marking;
 use rules::RESPONSES;
-use moves::Refusal;
-use moves::Verdict;
 use rules::WORDS;
 
 // Refusals 2, 4, 6.

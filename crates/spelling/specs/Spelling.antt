@@ -29,7 +29,8 @@ pub spelt-none : (at : ℕ) (room : List ℕ) → Spliced (spelt []) at room roo
 unfolding spelt
 spelt-none at room = record { next = omega arith; stored = refl }
 
-pub spelt-then : (x : ℕ) (xs : List ℕ) (at : ℕ) (old mid new : List ℕ) (r q : ℕ) → Spliced (bytes 8 x) at old mid r → Spliced (spelt xs) r mid new q → Spliced (spelt (x ∷ xs)) at old new q
+pub spelt-then : (x : ℕ) (xs : List ℕ) (at : ℕ) (old mid new : List ℕ) (r q : ℕ) → Spliced (bytes 8 x) at old mid r
+    → Spliced (spelt xs) r mid new q → Spliced (spelt (x ∷ xs)) at old new q
 unfolding spelt
 spelt-then x xs at old mid new r q a b = spliced-then (bytes 8 x) (spelt xs) at old mid new r q a b
 
@@ -39,7 +40,8 @@ spelt-append [] ys = refl
 spelt-append (x ∷ xs) ys = ap (λ (l : List ℕ). bytes 8 x ++ l) (spelt-append xs ys) ∙ sym (append-assoc (bytes 8 x) (spelt xs) (spelt ys))
 
 -- what is left of the room behind w bytes
-pub room-behind : (w x k at : ℕ) (old new : List ℕ) (r : ℕ) → Spliced (bytes w x) at old new r → at + (w + k) ≤ length old → r + k ≤ length new
+pub room-behind : (w x k at : ℕ) (old new : List ℕ) (r : ℕ) → Spliced (bytes w x) at old new r → at + (w + k) ≤ length old
+    → r + k ≤ length new
 room-behind w x k at old new r s h =
     let n : r ≡ at + length (bytes w x) = s .next in
     let l : length (bytes w x) ≡ w = length-bytes w x in
@@ -51,7 +53,8 @@ unfolding spelt bytes
 length-spelt a b c d = refl
 
 -- behind four sets
-pub room-behind-four : (a b c d k at : ℕ) (old new : List ℕ) (r : ℕ) → Spliced (spelt (a ∷ b ∷ c ∷ d ∷ [])) at old new r → at + (32 + k) ≤ length old → r + k ≤ length new
+pub room-behind-four : (a b c d k at : ℕ) (old new : List ℕ) (r : ℕ) → Spliced (spelt (a ∷ b ∷ c ∷ d ∷ [])) at old new r
+    → at + (32 + k) ≤ length old → r + k ≤ length new
 room-behind-four a b c d k at old new r s h =
     let n : r ≡ at + length (spelt (a ∷ b ∷ c ∷ d ∷ [])) = s .next in
     let l : length (spelt (a ∷ b ∷ c ∷ d ∷ [])) ≡ 32 = length-spelt a b c d in
@@ -81,7 +84,9 @@ unfolding recordBytes
 spelt-record r old one two new i j k h a b c =
     let front : List ℕ = r .needin ∷ r .needex ∷ r .needout ∷ r .done ∷ [] in
     let back : List ℕ = r .dueset ∷ r .dueclear ∷ r .inset ∷ r .inclear ∷ [] in
-    let both : Spliced (spelt (setsOf r)) i one new k = subst (λ (v : List ℕ). Spliced v i one new k) (sym (spelt-append front back)) (spliced-then (spelt front) (spelt back) i one two new j k b c) in
+    let both : Spliced (spelt (setsOf r)) i one new k =
+    subst (λ (v : List ℕ). Spliced v i one new k) (sym (spelt-append front back))
+    (spliced-then (spelt front) (spelt back) i one two new j k b c) in
     let all : Spliced (recordBytes r) 0 old new k = spliced-then (bytes 1 (flag (r .never))) (spelt (setsOf r)) 0 old one new i k a both in
     let whole : 0 + length (recordBytes r) ≡ 65 = omega (arith, length-record r) in
     all .stored

@@ -12,12 +12,12 @@ use lib.Dec.{ltb, leb}
 use borrow.Author.Tests.{ltb-true, leb-true, lt-ltb, le-ltb, eq-eqb, eqb-true}
 use Rattle.sets.specs.Sets.{union, empty, within, full, gather, every, has}
 use Rattle.sets.specs.Truth.{and-exchange, and-left, and-right, and-intro, same-truth}
-use Rattle.sets.specs.Laws.{empty-gather, empty-union, within-gather, within-union, within-full, every-and, every-same, every-at, every-of, has-zero}
+use Rattle.sets.specs.Laws.{empty-gather, empty-union, within-gather, within-union, within-full, every-and, every-same, every-at, every-of}
+use Rattle.sets.specs.Laws.{has-zero}
 use Rattle.tables.specs.Tables.{row, tableAt, keeps, rolesFit, arrowsFit, kindsApart, countsFit}
 use Rattle.moves.specs.Move.{within1to}
 use Rattle.tables.specs.Gathered.{beyond, rowsTogether, rowsShared, Sized}
 use lib.Pow.{pow-pos, pow-mono}
-
 
 -- ---- a part of a list of words
 
@@ -27,7 +27,8 @@ row-at at count words s h = getD-take count (drop at words) s 0 h ∙ getD-drop 
 
 -- a table within them has its count of rows
 pub rows-at : (at count : ℕ) (words : List ℕ) → at + count ≤ length words → length (tableAt at count words) ≡ count
-rows-at at count words h = length-take-le count (drop at words) (let l : length (drop at words) ≡ length words - at = length-drop at words in omega arith)
+rows-at at count words h =
+    length-take-le count (drop at words) (let l : length (drop at words) ≡ length words - at = length-drop at words in omega arith)
 
 -- ---- what is gathered
 
@@ -49,9 +50,12 @@ unfolding kept
 gathered-kept room count limit f h =
     ap₂ _&&_ (within-gather limit count f) (empty-gather room (beyond count f))
     ∙ same-truth (every count low && every room high) (every room both)
-    (λ e. every-of room both (λ i l. join i l (decLt i count) (every-at count low (and-left (every count low) (every room high) e) i) (every-at room high (and-right (every count low) (every room high) e) i l)))
+    (λ e. every-of room both
+    (λ i l. join i l (decLt i count) (every-at count low (and-left (every count low) (every room high) e) i)
+    (every-at room high (and-right (every count low) (every room high) e) i l)))
     (λ e. and-intro
-    (every-of count low (λ i l. subst (λ (b : Bool). within (cond b limit 0) (f i) ≡ true) (lt-ltb i count l) (every-at room both e i (lt-of-lt-of-le l h))))
+    (every-of count low (λ i l.
+    subst (λ (b : Bool). within (cond b limit 0) (f i) ≡ true) (lt-ltb i count l) (every-at room both e i (lt-of-lt-of-le l h))))
     (every-of room high (λ i l. part i (decLt i count) (every-at room both e i l))))
   where
     low : ℕ → Bool
@@ -66,11 +70,13 @@ gathered-kept room count limit f h =
     none : (x : ℕ) → empty x ≡ true → within 0 x ≡ true
     none x e = lt-ltb x 1 (let z : x ≡ 0 = eqb-true x 0 e in omega arith)
 
-    join : (i : ℕ) → i < room → Dec (i < count) → (i < count → within limit (f i) ≡ true) → empty (cond (ltb i count) 0 (f i)) ≡ true → within (cond (ltb i count) limit 0) (f i) ≡ true
+    join : (i : ℕ) → i < room → Dec (i < count) → (i < count → within limit (f i) ≡ true) → empty (cond (ltb i count) 0 (f i)) ≡ true
+        → within (cond (ltb i count) limit 0) (f i) ≡ true
     join i l (yes k) w e = subst (λ (b : Bool). within (cond b limit 0) (f i) ≡ true) (sym (lt-ltb i count k)) (w k)
     join i l (no k) w e =
         let off : ltb i count ≡ false = le-ltb i count (let z : count ≤ i = omega arith in z) in
-        subst (λ (b : Bool). within (cond b limit 0) (f i) ≡ true) (sym off) (none (f i) (subst (λ (b : Bool). empty (cond b 0 (f i)) ≡ true) off e))
+        subst (λ (b : Bool). within (cond b limit 0) (f i) ≡ true) (sym off)
+        (none (f i) (subst (λ (b : Bool). empty (cond b 0 (f i)) ≡ true) off e))
 
     part : (i : ℕ) → Dec (i < count) → within (cond (ltb i count) limit 0) (f i) ≡ true → empty (cond (ltb i count) 0 (f i)) ≡ true
     part i (yes k) e = subst (λ (b : Bool). empty (cond b 0 (f i)) ≡ true) (sym (lt-ltb i count k)) refl
@@ -80,10 +86,12 @@ gathered-kept room count limit f h =
         subst (λ (b : Bool). empty (cond b 0 (f i)) ≡ true) (sym off) (eq-eqb (f i) 0 (omega arith))
 
 -- two tables are kept together exactly if each is
-kept-union : (room count limit : ℕ) (f g : ℕ → ℕ) → kept room count limit (λ i. union (f i) (g i)) ≡ (kept room count limit f && kept room count limit g)
+kept-union : (room count limit : ℕ) (f g : ℕ → ℕ)
+    → kept room count limit (λ i. union (f i) (g i)) ≡ (kept room count limit f && kept room count limit g)
 unfolding kept
 kept-union room count limit f g =
-    every-same room (λ i. within (bound i) (union (f i) (g i))) (λ i. within (bound i) (f i) && within (bound i) (g i)) (λ i. within-union (bound i) (f i) (g i))
+    every-same room (λ i. within (bound i) (union (f i) (g i))) (λ i. within (bound i) (f i) && within (bound i) (g i))
+    (λ i. within-union (bound i) (f i) (g i))
     ∙ every-and room (λ i. within (bound i) (f i)) (λ i. within (bound i) (g i))
   where
     bound : ℕ → ℕ
@@ -126,7 +134,8 @@ arrows-keep k r s t u inside all past n h lr ls lt lu pa pp =
     ap₂ _&&_ (ap (leb all) n ∙ within-full k all ∙ ap (within k) pa) (ap empty pp)
     ∙ gathered-kept 64 k k (rowsTogether r s t u) h
     ∙ kept-union 64 k k (λ i. union (row r i) (row s i)) (λ i. union (row t i) (row u i))
-    ∙ ap₂ _&&_ (kept-union 64 k k (row r) (row s) ∙ ap₂ _&&_ (keeps-64 k r lr) (keeps-64 k s ls)) (kept-union 64 k k (row t) (row u) ∙ ap₂ _&&_ (keeps-64 k t lt) (keeps-64 k u lu))
+    ∙ ap₂ _&&_ (kept-union 64 k k (row r) (row s) ∙ ap₂ _&&_ (keeps-64 k r lr) (keeps-64 k s ls))
+    (kept-union 64 k k (row t) (row u) ∙ ap₂ _&&_ (keeps-64 k t lt) (keeps-64 k u lu))
 
 -- a table of 64 words names no step beyond 64, and has no row beyond
 words-keep : (t : List ℕ) → length t ≡ 64 → ((i : ℕ) → row t i < 2 ^ 64) → keeps 64 64 t ≡ true
@@ -139,7 +148,8 @@ pub words-fit : (r s t u : List ℕ) → Sized 64 r s t u
     → ((i : ℕ) → row r i < 2 ^ 64) → ((i : ℕ) → row s i < 2 ^ 64) → ((i : ℕ) → row t i < 2 ^ 64) → ((i : ℕ) → row u i < 2 ^ 64)
     → true ≡ arrowsFit 64 r s t u
 words-fit r s t u l wr ws wt wu =
-    sym (and-intro (and-intro (words-keep r (l .first) wr) (words-keep s (l .second) ws)) (and-intro (words-keep t (l .third) wt) (words-keep u (l .fourth) wu)))
+    sym (and-intro (and-intro (words-keep r (l .first) wr) (words-keep s (l .second) ws))
+    (and-intro (words-keep t (l .third) wt) (words-keep u (l .fourth) wu)))
 
 -- nothing is shared exactly if no pair is both include and exclude
 pub shared-apart : (k : ℕ) (t u : List ℕ) (both : ℕ) → both ≡ gather k (rowsShared t u) → empty both ≡ kindsApart k t u
@@ -183,9 +193,12 @@ keeps-row count limit table e i = go (decLt i (length table))
     go : Dec (i < length table) → row table i < 2 ^ limit
     go (yes h) =
         lt-of-lt-of-le
-        (ltb-true (row table i) (2 ^ cond (ltb i count) limit 0) (every-at (length table) (λ k. within (cond (ltb k count) limit 0) (row table k)) e i h))
+        (ltb-true (row table i) (2 ^ cond (ltb i count) limit 0)
+        (every-at (length table) (λ k. within (cond (ltb k count) limit 0) (row table k)) e i h))
         (pow-mono (low (ltb i count)))
-    go (no h) = lt-of-le-of-lt (let z : row table i ≤ 0 = omega (arith, List·getD-eq-default table 0 {n = i} (let w : length table ≤ i = omega arith in w)) in z) (pow-pos limit)
+    go (no h) = lt-of-le-of-lt
+        (let z : row table i ≤ 0 = omega (arith, List·getD-eq-default table 0 {n = i} (let w : length table ≤ i = omega arith in w)) in z)
+        (pow-pos limit)
 
 -- a table that keeps to its counts has nothing at or beyond them
 pub keeps-gone : (count limit : ℕ) (table : List ℕ) → keeps count limit table ≡ true → (i : ℕ) → count ≤ i → row table i ≡ 0
@@ -195,7 +208,9 @@ keeps-gone count limit table e i h = go (decLt i (length table))
     go : Dec (i < length table) → row table i ≡ 0
     go (yes l) =
         let small : row table i < 1 =
-        ltb-true (row table i) 1 (subst (λ (b : Bool). within (cond b limit 0) (row table i) ≡ true) (le-ltb i count h) (every-at (length table) (λ k. within (cond (ltb k count) limit 0) (row table k)) e i l)) in
+        ltb-true (row table i) 1
+        (subst (λ (b : Bool). within (cond b limit 0) (row table i) ≡ true) (le-ltb i count h)
+        (every-at (length table) (λ k. within (cond (ltb k count) limit 0) (row table k)) e i l)) in
         omega arith
     go (no l) = List·getD-eq-default table 0 {n = i} (let z : length table ≤ i = omega arith in z)
 

@@ -5,12 +5,12 @@ ghost use Rattle.moves.specs.First.{first};
 ghost use Rattle.rules.specs.Graph.{graphOf};
 ghost use Rattle.tracker.specs.Tracker.{above, pool, begin, rest, trackAfter, isRank, meets, startLines};
 use crate::Track;
-use rules::Job;
 use moves::Marking;
 use moves::Rank;
 use moves::Refusal;
 use moves::Step;
 use moves::Verdict;
+use rules::Job;
 
 // What is against the graph and the marking. Refusals 2, 4, 6, 8.
 pub fn sound(g: &Job, m: Marking) -> Verdict

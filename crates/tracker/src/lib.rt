@@ -8,12 +8,12 @@ use crate::inner::ranked;
 use crate::inner::rest;
 use crate::inner::sound;
 use moves::Entry;
-use rules::Job;
 use moves::Marking;
 use moves::Move;
 use moves::Rank;
 use moves::Refusal;
 use moves::Verdict;
+use rules::Job;
 
 pub mod inner;
 

@@ -34,7 +34,8 @@ returns-2 : tie.Need-returns-2
 returns-2 c =
     let a = c .before .before .before .before .before .before .args in
     let g : Graph = graphOf (a .g .now) in
-    let clear : graphVerdict g ≡ Verdict.Clear = sym (c .before .before .before .before .check .ensures) ∙ c .before .before .enum-told .given .1 in
+    let clear : graphVerdict g ≡ Verdict.Clear = sym (c .before .before .before .before .check .ensures)
+    ∙ c .before .before .enum-told .given .1 in
     let long : lengthFits (a .j .now) ≡ false = sym (c .before .length-fits .ensures) ∙ not-true _ (c .if1 .taken) in
     sym (fold-length g (a .j .now) clear long)
 
@@ -42,7 +43,8 @@ fold-entries-requires : tie.Need-fold-entries-requires
 fold-entries-requires c κs =
     let a = c .before .before .before .before .before .before .args in
     let g : Graph = graphOf (a .g .now) in
-    let clear : graphVerdict g ≡ Verdict.Clear = sym (c .before .before .before .before .check .ensures) ∙ c .before .before .enum-told .given .1 in
+    let clear : graphVerdict g ≡ Verdict.Clear = sym (c .before .before .before .before .check .ensures)
+    ∙ c .before .before .enum-told .given .1 in
     let long : lengthFits (a .j .now) ≡ true = sym (c .before .length-fits .ensures) ∙ not-false _ (c .if1 .left) in
     (clear, fits-threes (a .j .now) long)
 
@@ -50,7 +52,8 @@ returns-3 : tie.Need-returns-3
 returns-3 c =
     let a = c .before .before .before .before .before .before .before .args in
     let g : Graph = graphOf (a .g .now) in
-    let clear : graphVerdict g ≡ Verdict.Clear = sym (c .before .before .before .before .before .check .ensures) ∙ c .before .before .before .enum-told .given .1 in
+    let clear : graphVerdict g ≡ Verdict.Clear = sym (c .before .before .before .before .before .check .ensures)
+    ∙ c .before .before .before .enum-told .given .1 in
     let long : lengthFits (a .j .now) ≡ true = sym (c .before .before .length-fits .ensures) ∙ not-false _ (c .before .if1 .left) in
     ap Recorded.Made (c .fold-entries .ensures) ∙ sym (fold-clear g (a .j .now) clear long)
 

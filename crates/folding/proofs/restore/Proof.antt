@@ -43,7 +43,8 @@ returns-2 : tie.Need-returns-2
 returns-2 c =
     let a = c .before .before .before .before .before .before .before .args in
     let g : Graph = graphOf (a .g .now) in
-    let clear : graphVerdict g ≡ Verdict.Clear = sym (c .before .before .before .before .check .ensures) ∙ c .before .before .enum-told .given .1 in
+    let clear : graphVerdict g ≡ Verdict.Clear = sym (c .before .before .before .before .check .ensures)
+    ∙ c .before .before .enum-told .given .1 in
     let long : lengthFits (a .j .now) ≡ false = sym (c .before .length-fits .ensures) ∙ not-true _ (c .if1 .taken) in
     sym (restore-length g (a .r) (a .j .now) (a .m) clear long)
 
@@ -51,7 +52,8 @@ fits-requires : tie.Need-fits-requires
 fits-requires c κs =
     let a = c .before .before .before .before .before .before .before .args in
     let g : Graph = graphOf (a .g .now) in
-    let clear : graphVerdict g ≡ Verdict.Clear = sym (c .before .before .before .before .check .ensures) ∙ c .before .before .enum-told .given .1 in
+    let clear : graphVerdict g ≡ Verdict.Clear = sym (c .before .before .before .before .check .ensures)
+    ∙ c .before .before .enum-told .given .1 in
     let b : Counted (g .steps) (g .people) (g .roles) = clear-counts g clear in
     b .steps-most
 
@@ -59,8 +61,10 @@ returns-3 : tie.Need-returns-3
 returns-3 c =
     let a = c .before .before .before .before .before .before .before .before .before .args in
     let g : Graph = graphOf (a .g .now) in
-    let clear : graphVerdict g ≡ Verdict.Clear = sym (c .before .before .before .before .before .before .check .ensures) ∙ c .before .before .before .before .enum-told .given .1 in
-    let long : lengthFits (a .j .now) ≡ true = sym (c .before .before .before .length-fits .ensures) ∙ not-false _ (c .before .before .if1 .left) in
+    let clear : graphVerdict g ≡ Verdict.Clear = sym (c .before .before .before .before .before .before .check .ensures)
+    ∙ c .before .before .before .before .enum-told .given .1 in
+    let long : lengthFits (a .j .now) ≡ true = sym (c .before .before .before .length-fits .ensures)
+    ∙ not-false _ (c .before .before .if1 .left) in
     let within : markingFits (g .steps) (a .m) ≡ false = sym (c .before .fits2 .ensures) ∙ not-true _ (c .if2 .taken) in
     sym (restore-outside g (a .r) (a .j .now) (a .m) clear long within)
 
@@ -68,7 +72,8 @@ well-formed-requires : tie.Need-well-formed-requires
 well-formed-requires c κs =
     let a = c .before .before .before .before .before .before .before .before .before .args in
     let g : Graph = graphOf (a .g .now) in
-    let clear : graphVerdict g ≡ Verdict.Clear = sym (c .before .before .before .before .before .before .check .ensures) ∙ c .before .before .before .before .enum-told .given .1 in
+    let clear : graphVerdict g ≡ Verdict.Clear = sym (c .before .before .before .before .before .before .check .ensures)
+    ∙ c .before .before .before .before .enum-told .given .1 in
     let b : Counted (g .steps) (g .people) (g .roles) = clear-counts g clear in
     b .steps-most
 
@@ -76,9 +81,12 @@ returns-4 : tie.Need-returns-4
 returns-4 c =
     let a = c .before .before .before .before .before .before .before .before .before .before .before .args in
     let g : Graph = graphOf (a .g .now) in
-    let clear : graphVerdict g ≡ Verdict.Clear = sym (c .before .before .before .before .before .before .before .before .check .ensures) ∙ c .before .before .before .before .before .before .enum-told .given .1 in
-    let long : lengthFits (a .j .now) ≡ true = sym (c .before .before .before .before .before .length-fits .ensures) ∙ not-false _ (c .before .before .before .before .if1 .left) in
-    let within : markingFits (g .steps) (a .m) ≡ true = sym (c .before .before .before .fits2 .ensures) ∙ not-false _ (c .before .before .if2 .left) in
+    let clear : graphVerdict g ≡ Verdict.Clear = sym (c .before .before .before .before .before .before .before .before .check .ensures)
+    ∙ c .before .before .before .before .before .before .enum-told .given .1 in
+    let long : lengthFits (a .j .now) ≡ true = sym (c .before .before .before .before .before .length-fits .ensures)
+    ∙ not-false _ (c .before .before .before .before .if1 .left) in
+    let within : markingFits (g .steps) (a .m) ≡ true = sym (c .before .before .before .fits2 .ensures)
+    ∙ not-false _ (c .before .before .if2 .left) in
     let good : wellFormed (g .steps) (a .r) ≡ false = sym (c .before .well-formed .ensures) ∙ not-true _ (c .if3 .taken) in
     sym (restore-ill g (a .r) (a .j .now) (a .m) clear long within good)
 
@@ -89,10 +97,15 @@ returns-5 : tie.Need-returns-5
 returns-5 c =
     let a = c .before .before .before .before .before .before .before .before .before .before .before .before .before .args in
     let g : Graph = graphOf (a .g .now) in
-    let clear : graphVerdict g ≡ Verdict.Clear = sym (c .before .before .before .before .before .before .before .before .before .before .check .ensures) ∙ c .before .before .before .before .before .before .before .before .enum-told .given .1 in
-    let long : lengthFits (a .j .now) ≡ true = sym (c .before .before .before .before .before .before .before .length-fits .ensures) ∙ not-false _ (c .before .before .before .before .before .before .if1 .left) in
-    let within : markingFits (g .steps) (a .m) ≡ true = sym (c .before .before .before .before .before .fits2 .ensures) ∙ not-false _ (c .before .before .before .before .if2 .left) in
-    let good : wellFormed (g .steps) (a .r) ≡ true = sym (c .before .before .before .well-formed .ensures) ∙ not-false _ (c .before .before .if3 .left) in
+    let clear : graphVerdict g ≡ Verdict.Clear =
+    sym (c .before .before .before .before .before .before .before .before .before .before .check .ensures)
+    ∙ c .before .before .before .before .before .before .before .before .enum-told .given .1 in
+    let long : lengthFits (a .j .now) ≡ true = sym (c .before .before .before .before .before .before .before .length-fits .ensures)
+    ∙ not-false _ (c .before .before .before .before .before .before .if1 .left) in
+    let within : markingFits (g .steps) (a .m) ≡ true = sym (c .before .before .before .before .before .fits2 .ensures)
+    ∙ not-false _ (c .before .before .before .before .if2 .left) in
+    let good : wellFormed (g .steps) (a .r) ≡ true = sym (c .before .before .before .well-formed .ensures)
+    ∙ not-false _ (c .before .before .if3 .left) in
     let suit : applies (a .r) (a .m) ≡ false = sym (c .before .suits .ensures) ∙ not-true _ (c .if4 .taken) in
     sym (restore-on g (a .r) (a .j .now) (a .m) false clear long within good suit)
 
@@ -103,20 +116,31 @@ run-entries-requires : tie.Need-run-entries-requires
 run-entries-requires c κs =
     let a = c .before .before .before .before .before .before .before .before .before .before .before .before .before .before .args in
     let g : Graph = graphOf (a .g .now) in
-    let clear : graphVerdict g ≡ Verdict.Clear = sym (c .before .before .before .before .before .before .before .before .before .before .before .check .ensures) ∙ c .before .before .before .before .before .before .before .before .before .enum-told .given .1 in
-    let long : lengthFits (a .j .now) ≡ true = sym (c .before .before .before .before .before .before .before .before .length-fits .ensures) ∙ not-false _ (c .before .before .before .before .before .before .before .if1 .left) in
+    let clear : graphVerdict g ≡ Verdict.Clear =
+    sym (c .before .before .before .before .before .before .before .before .before .before .before .check .ensures)
+    ∙ c .before .before .before .before .before .before .before .before .before .enum-told .given .1 in
+    let long : lengthFits (a .j .now) ≡ true = sym (c .before .before .before .before .before .before .before .before .length-fits .ensures)
+    ∙ not-false _ (c .before .before .before .before .before .before .before .if1 .left) in
     (clear, fits-threes (a .j .now) long, fits-most (a .j .now) long)
 
 returns-6 : tie.Need-returns-6
 returns-6 c =
     let a = c .before .before .before .before .before .before .before .before .before .before .before .before .before .before .before .args in
     let g : Graph = graphOf (a .g .now) in
-    let clear : graphVerdict g ≡ Verdict.Clear = sym (c .before .before .before .before .before .before .before .before .before .before .before .before .check .ensures) ∙ c .before .before .before .before .before .before .before .before .before .before .enum-told .given .1 in
-    let long : lengthFits (a .j .now) ≡ true = sym (c .before .before .before .before .before .before .before .before .before .length-fits .ensures) ∙ not-false _ (c .before .before .before .before .before .before .before .before .if1 .left) in
-    let within : markingFits (g .steps) (a .m) ≡ true = sym (c .before .before .before .before .before .before .before .fits2 .ensures) ∙ not-false _ (c .before .before .before .before .before .before .if2 .left) in
-    let good : wellFormed (g .steps) (a .r) ≡ true = sym (c .before .before .before .before .before .well-formed .ensures) ∙ not-false _ (c .before .before .before .before .if3 .left) in
-    let suit : applies (a .r) (a .m) ≡ true = sym (c .before .before .before .suits .ensures) ∙ not-false _ (c .before .before .if4 .left) in
-    c .run-entries .ensures ∙ ap (λ (x : Marking). runOn g x 0 (entries (a .j .now))) (c .before .given .ensures) ∙ sym (restore-on g (a .r) (a .j .now) (a .m) true clear long within good suit)
+    let clear : graphVerdict g ≡ Verdict.Clear =
+    sym (c .before .before .before .before .before .before .before .before .before .before .before .before .check .ensures)
+    ∙ c .before .before .before .before .before .before .before .before .before .before .enum-told .given .1 in
+    let long : lengthFits (a .j .now) ≡ true =
+    sym (c .before .before .before .before .before .before .before .before .before .length-fits .ensures)
+    ∙ not-false _ (c .before .before .before .before .before .before .before .before .if1 .left) in
+    let within : markingFits (g .steps) (a .m) ≡ true = sym (c .before .before .before .before .before .before .before .fits2 .ensures)
+    ∙ not-false _ (c .before .before .before .before .before .before .if2 .left) in
+    let good : wellFormed (g .steps) (a .r) ≡ true = sym (c .before .before .before .before .before .well-formed .ensures)
+    ∙ not-false _ (c .before .before .before .before .if3 .left) in
+    let suit : applies (a .r) (a .m) ≡ true = sym (c .before .before .before .suits .ensures)
+    ∙ not-false _ (c .before .before .if4 .left) in
+    c .run-entries .ensures ∙ ap (λ (x : Marking). runOn g x 0 (entries (a .j .now))) (c .before .given .ensures)
+    ∙ sym (restore-on g (a .r) (a .j .now) (a .m) true clear long within good suit)
 
 pub restore-spec : {M : Type 1} → statement M
 restore-spec =

@@ -37,7 +37,8 @@ returns-2 c =
     let a = c .before .before .before .before .before .before .args in
     let g : Graph = graphOf (a .g .now) in
     let j = a .j .now in
-    let clear : graphVerdict g ≡ Verdict.Clear = sym (c .before .before .before .before .check .ensures) ∙ c .before .before .enum-told .given .1 in
+    let clear : graphVerdict g ≡ Verdict.Clear = sym (c .before .before .before .before .check .ensures)
+    ∙ c .before .before .enum-told .given .1 in
     let short : lengthFits j ≡ false = sym (c .before .length-fits .ensures) ∙ not-true _ (c .if1 .taken) in
     sym (run-length g (a .m) j clear short)
 
@@ -48,7 +49,8 @@ fits-requires : tie.Need-fits-requires
 fits-requires c κs =
     let a = c .before .before .before .before .before .before .before .args in
     let g : Graph = graphOf (a .g .now) in
-    let clear : graphVerdict g ≡ Verdict.Clear = sym (c .before .before .before .before .before .check .ensures) ∙ c .before .before .before .enum-told .given .1 in
+    let clear : graphVerdict g ≡ Verdict.Clear = sym (c .before .before .before .before .before .check .ensures)
+    ∙ c .before .before .before .enum-told .given .1 in
     let b : Counted (g .steps) (g .people) (g .roles) = clear-counts g clear in
     omega arith
 
@@ -57,8 +59,10 @@ returns-3 c =
     let a = c .before .before .before .before .before .before .before .before .before .args in
     let g : Graph = graphOf (a .g .now) in
     let j = a .j .now in
-    let clear : graphVerdict g ≡ Verdict.Clear = sym (c .before .before .before .before .before .before .before .check .ensures) ∙ c .before .before .before .before .before .enum-told .given .1 in
-    let long : lengthFits j ≡ true = sym (c .before .before .before .before .length-fits .ensures) ∙ not-false _ (c .before .before .before .if1 .left) in
+    let clear : graphVerdict g ≡ Verdict.Clear = sym (c .before .before .before .before .before .before .before .check .ensures)
+    ∙ c .before .before .before .before .before .enum-told .given .1 in
+    let long : lengthFits j ≡ true = sym (c .before .before .before .before .length-fits .ensures)
+    ∙ not-false _ (c .before .before .before .if1 .left) in
     let out : markingFits (g .steps) (a .m) ≡ false = sym (c .before .fits2 .ensures) ∙ not-true _ (c .if2 .taken) in
     sym (run-outside g (a .m) j clear long out)
 
@@ -67,8 +71,10 @@ run-entries-requires c κs =
     let a = c .before .before .before .before .before .before .before .before .before .args in
     let g : Graph = graphOf (a .g .now) in
     let j = a .j .now in
-    let clear : graphVerdict g ≡ Verdict.Clear = sym (c .before .before .before .before .before .before .before .check .ensures) ∙ c .before .before .before .before .before .enum-told .given .1 in
-    let long : lengthFits j ≡ true = sym (c .before .before .before .before .length-fits .ensures) ∙ not-false _ (c .before .before .before .if1 .left) in
+    let clear : graphVerdict g ≡ Verdict.Clear = sym (c .before .before .before .before .before .before .before .check .ensures)
+    ∙ c .before .before .before .before .before .enum-told .given .1 in
+    let long : lengthFits j ≡ true = sym (c .before .before .before .before .length-fits .ensures)
+    ∙ not-false _ (c .before .before .before .if1 .left) in
     (clear, fits-threes j long, fits-most j long)
 
 returns-4 : tie.Need-returns-4
@@ -76,8 +82,10 @@ returns-4 c =
     let a = c .before .before .before .before .before .before .before .before .before .before .args in
     let g : Graph = graphOf (a .g .now) in
     let j = a .j .now in
-    let clear : graphVerdict g ≡ Verdict.Clear = sym (c .before .before .before .before .before .before .before .before .check .ensures) ∙ c .before .before .before .before .before .before .enum-told .given .1 in
-    let long : lengthFits j ≡ true = sym (c .before .before .before .before .before .length-fits .ensures) ∙ not-false _ (c .before .before .before .before .if1 .left) in
+    let clear : graphVerdict g ≡ Verdict.Clear = sym (c .before .before .before .before .before .before .before .before .check .ensures)
+    ∙ c .before .before .before .before .before .before .enum-told .given .1 in
+    let long : lengthFits j ≡ true = sym (c .before .before .before .before .before .length-fits .ensures)
+    ∙ not-false _ (c .before .before .before .before .if1 .left) in
     let within : markingFits (g .steps) (a .m) ≡ true = sym (c .before .before .fits2 .ensures) ∙ not-false _ (c .before .if2 .left) in
     c .run-entries .ensures ∙ sym (run-inside g (a .m) j clear long within)
 

@@ -16,9 +16,11 @@ use prog.Wp.{Heap, Calls, Loops, WpFn, Tables}
 use ghost.Atoms.{Atoms, sem}
 use contract.Monad.{Fun, fact}
 use contract.Running.{givenOf, tables, tablesOf}
-use types.Kit.{Given, ‵, raw, _⊛_, ⋆, some, later, _$_, _∵_, !, qed, by, move, keep, drop, use1, use2, use3, split, join, pick, rewrite, fsplit, fsplit3, fjoin, fjoin3, feqI, suffices, frame, await, done}
+use types.Kit.{Given, ‵, raw, _⊛_, ⋆, some, later, _$_, _∵_, !, qed, by, move, keep, drop, use1, use2, use3, split, join, pick, rewrite}
+use types.Kit.{fsplit, fsplit3, fjoin, fjoin3, feqI, suffices, frame, await, done}
 use types.Part.{whole, sub, look-in}
-use types.Run.{look, init, store, forget, stop, hop, fld, from, load, of-opd, and-then, no-more, assigns, land, returns, enter, alloc1, alloc0, params1, pass1, pass0, free1, free0}
+use types.Run.{look, init, store, forget, stop, hop, fld, from, load, of-opd, and-then, no-more, assigns, land, returns, enter, alloc1}
+use types.Run.{alloc0, params1, pass1, pass0, free1, free0}
 use types.SemTy.{Body}
 use sound.WpLaws.{FmC, fmOf, WpFn-mono}
 use denote.RattleType.{RattleType, Denots, Valss, flat, owns}
@@ -38,7 +40,8 @@ use denote.Triple.Clauses.{ensured, lasts}
 use denote.Triple.Entry.{onEntry}
 use denote.Triple.Spec.{Meets, tripleOf}
 use denote.Triple.Table.{entered, cited}
-use denote.Triple.Walked.{says, Stays, stay-ref, stay-none, stay-none-ref, walkOf, AllGo, goes-ref, goes-none, goes-none-ref, Walks, ends-at, walked, walk-meets}
+use denote.Triple.Walked.{says, Stays, stay-ref, stay-none, stay-none-ref, walkOf, AllGo, goes-ref, goes-none, goes-none-ref, Walks}
+use denote.Triple.Walked.{ends-at, walked, walk-meets}
 use denote.Exit.{yes}
 use Rattle.moves.specs.declared.Marking.{Marking}
 use Rattle.rules.specs.Graph.{graphOf}
@@ -83,7 +86,8 @@ module _ {M : Type 1} (𝓤 : URA M) (H : Heap 𝓤) (A : Atoms 𝓤) (at-mem : 
   abbrev Keeping : Contract 𝓤
   Keeping = tripleOf 𝓤 H A keeping.signature (keeping.spec 𝓤 H A at-mem run)
 
-module _ {M : Type 1} (𝓤 : URA M) (H : Heap 𝓤) (A : Atoms 𝓤) (W : Given 𝓤 H A) (at-mem : Memory → SProp 𝓤) (run : Routine → Fun 𝓤) (κ κ′ : Lft) (q q′ : Share) (b o : ℕ) (γ : GName) (h : Marking) (y : Denots (Rs κ′)) where
+module _ {M : Type 1} (𝓤 : URA M) (H : Heap 𝓤) (A : Atoms 𝓤) (W : Given 𝓤 H A) (at-mem : Memory → SProp 𝓤) (run : Routine → Fun 𝓤)
+    (κ κ′ : Lft) (q q′ : Share) (b o : ℕ) (γ : GName) (h : Marking) (y : Denots (Rs κ′)) where
   -- the machine values of what is passed
   abbrev vy : Valss (Rs κ′)
   vy = valss (Rs κ′) (sp κ′) y
@@ -113,12 +117,16 @@ module _ {M : Type 1} (𝓤 : URA M) (H : Heap 𝓤) (A : Atoms 𝓤) (W : Given
   abbrev to : Keeping 𝓤 H A at-mem run .Ghost
   to = (((κ′, tt), (q′, tt), tt, (h, y), (LL.vals T.the-type T′.the-laws h, vy)), tt)
 
-  asked : ent 𝓤 (onEntry 𝓤 H A keeping.signature (κ′, tt) (q′, tt) (h, y) (LL.vals T.the-type T′.the-laws h, vy)) (Keeping 𝓤 H A at-mem run .pre to)
-  asked = qed W ((‵ (flft κ′ q′) ⊛ ‵ ftrue) ∷ ‵ (owns (T.the-row ∷ Rs κ′) (h, y) (LL.vals T.the-type T′.the-laws h, vy)) ∷ []) ∵ join ! $ frame ! $ done !
+  asked : ent 𝓤 (onEntry 𝓤 H A keeping.signature (κ′, tt) (q′, tt) (h, y) (LL.vals T.the-type T′.the-laws h, vy))
+      (Keeping 𝓤 H A at-mem run .pre to)
+  asked = qed W ((‵ (flft κ′ q′) ⊛ ‵ ftrue) ∷ ‵ (owns (T.the-row ∷ Rs κ′) (h, y) (LL.vals T.the-type T′.the-laws h, vy))
+      ∷ []) ∵ join ! $ frame ! $ done !
 
-  apart : ent 𝓤 (⋆ 𝓤 H A ((‵ (flft κ′ q′) ⊛ ‵ ftrue) ∷ ‵ (OwnM h) ∷ ‵ Rest ∷ [])) (sep 𝓤 (Keeping 𝓤 H A at-mem run .pre to) (sem 𝓤 H A Rest))
+  apart : ent 𝓤 (⋆ 𝓤 H A ((‵ (flft κ′ q′) ⊛ ‵ ftrue) ∷ ‵ (OwnM h) ∷ ‵ Rest ∷ []))
+      (sep 𝓤 (Keeping 𝓤 H A at-mem run .pre to) (sem 𝓤 H A Rest))
   apart =
-      qed W ((‵ (flft κ′ q′) ⊛ ‵ ftrue) ∷ ‵ (OwnM h) ∷ ‵ Rest ∷ []) ∵ move ! (2 ∷ []) $ use1 W (‵ Rest ⊛ ‵ Rest) (twices 𝓤 H A W (Rs κ′) copies y vy) $ split ! $
+      qed W ((‵ (flft κ′ q′) ⊛ ‵ ftrue) ∷ ‵ (OwnM h) ∷ ‵ Rest ∷ []) ∵ move ! (2 ∷ []) $ use1 W (‵ Rest ⊛ ‵ Rest)
+      (twices 𝓤 H A W (Rs κ′) copies y vy) $ split ! $
       move ! (3 ∷ 0 ∷ []) $ fjoin ! $ move ! (2 ∷ 0 ∷ []) $ use2 W (raw (Keeping 𝓤 H A at-mem run .pre to)) asked $ frame ! $ done !
 
   -- of the callee's `ensured`, the clause alone: it has no `&mut`, so what is said of last values is dropped
@@ -133,63 +141,97 @@ module _ {M : Type 1} (𝓤 : URA M) (H : Heap 𝓤) (A : Atoms 𝓤) (W : Given
   markingVal r = LL.val T.the-type T′.the-laws (r .marking)
 
   exits : (r : Kept) → r ≡ found → Is N.the-row (r .answer) (answerVal r ∷ [])
-      → ent 𝓤 (⋆ 𝓤 H A (‵ (fobs γ (T.the-row .coded .code (r .marking))) ∷ ‵ (fbor κ (Body (mem T.the-row) b o γ)) ∷ ‵ (flft κ q) ∷ (‵ (flft κ′ q′) ⊛ ‵ ftrue) ∷ ‵ Rest ∷ [])) (Post (answerVal r))
+      → ent 𝓤 (⋆ 𝓤 H A (‵ (fobs γ (T.the-row .coded .code (r .marking))) ∷ ‵ (fbor κ (Body (mem T.the-row) b o γ)) ∷ ‵ (flft κ q)
+      ∷ (‵ (flft κ′ q′) ⊛ ‵ ftrue) ∷ ‵ Rest ∷ [])) (Post (answerVal r))
   exits r e is =
-      qed W (‵ (fobs γ (T.the-row .coded .code (r .marking))) ∷ ‵ (fbor κ (Body (mem T.the-row) b o γ)) ∷ ‵ (flft κ q) ∷ (‵ (flft κ′ q′) ⊛ ‵ ftrue) ∷ ‵ Rest ∷ []) ∵
-      suffices ! _ (ends-at 𝓤 H A f.ended stayed (f.clauses 𝓤 H A at-mem run) W (((κ, (κ′, tt)), (q, (q′, tt)), tt, x, at), tt) (answerVal r) (r .answer) (r .marking, (tt, (tt, tt))) (tt, (tt, (tt, tt)))) $
+      qed W (‵ (fobs γ (T.the-row .coded .code (r .marking))) ∷ ‵ (fbor κ (Body (mem T.the-row) b o γ)) ∷ ‵ (flft κ q)
+      ∷ (‵ (flft κ′ q′) ⊛ ‵ ftrue) ∷ ‵ Rest ∷ []) ∵
+      suffices ! _ (ends-at 𝓤 H A f.ended stayed (f.clauses 𝓤 H A at-mem run) W (((κ, (κ′, tt)), (q, (q′, tt)), tt, x, at), tt)
+      (answerVal r) (r .answer) (r .marking, (tt, (tt, tt))) (tt, (tt, (tt, tt)))) $
       says ! (ap (λ (k : Kept). k .answer) e, ap (λ (k : Kept). k .marking) e) $
       move ! (2 ∷ 3 ∷ []) $ join ! $ frame ! $ feqI ! (List Val) (vptr b o ∷ []) (vptr b o ∷ []) refl $ fjoin3 ! $ fjoin ! $ frame ! $
       owned ! N.the-row (Is N.the-row) (EL.makes N.the-type N′.the-plain 𝓤 H A) (r .answer) _ is $ done !
 
   module _ (C : Calls 𝓤 H) (Λ : Loops 𝓤 H) (fm : FmC 𝓤 H (W .laws) C) (known : Triple 𝓤 (C #kept·keeping) (Keeping 𝓤 H A at-mem run)) where
-    walk : Are (Rs κ′) (Ises (Rs κ′)) y vy → ent 𝓤 (onEntry 𝓤 H A f.signature (κ, (κ′, tt)) (q, (q′, tt)) x at) (WpFn 𝓤 H C Λ code.function (vptr b o ∷ flat (Rs κ′) vy) Post)
+    walk : Are (Rs κ′) (Ises (Rs κ′)) y vy
+        → ent 𝓤 (onEntry 𝓤 H A f.signature (κ, (κ′, tt)) (q, (q′, tt)) x at) (WpFn 𝓤 H C Λ code.function (vptr b o ∷ flat (Rs κ′) vy) Post)
     walk are =
-        qed W ((‵ (flft κ q) ⊛ ‵ (flft κ′ q′) ⊛ ‵ ftrue) ∷ ‵ (owns (MutRef (named 0) κ T.the-row ∷ Rs κ′) x at) ∷ []) ∵ enter ! C Λ code.function (vptr b o ∷ flat (Rs κ′) vy) _ $
+        qed W ((‵ (flft κ q) ⊛ ‵ (flft κ′ q′) ⊛ ‵ ftrue) ∷ ‵ (owns (MutRef (named 0) κ T.the-row ∷ Rs κ′) x at)
+        ∷ []) ∵ enter ! C Λ code.function (vptr b o ∷ flat (Rs κ′) vy) _ $
         alloc1 ! (λ l₀. alloc1 ! (λ l₁. alloc1 ! (λ l₂. alloc1 ! (λ l₃. alloc1 ! (λ l₄. alloc1 ! (λ l₅. alloc0 ! $ params1 ! $
-        pass1 ! (init ! 8 refl (tt, tt)) $ pass1 ! (init ! 6 refl (tt, tt)) $ pass1 ! (init ! 4 refl (LL.lawful E.the-type E′.the-laws 𝓤 H A W .typed (y .1 .0) _ (are .1 .0) .0)) $
+        pass1 ! (init ! 8 refl (tt, tt)) $ pass1 ! (init ! 6 refl (tt, tt)) $ pass1 !
+        (init ! 4 refl (LL.lawful E.the-type E′.the-laws 𝓤 H A W .typed (y .1 .0) _ (are .1 .0) .0)) $
         pass0 ! $
         move ! (13 ∷ []) $ fsplit ! $ fsplit3 ! $ drop ! $ move ! (15 ∷ []) $ split ! $ move ! (2 ∷ 3 ∷ 0 ∷ []) $
-        opens ! tt T.the-row {h = h} b o (λ vs. spelt ! T.the-row (Is T.the-row) (shows 𝓤 H A T.the-row) (LL.vals T.the-type T′.the-laws) (LL.tells T.the-type T′.the-laws) fullShare h vs b o $
-        use1 W (‵ (fat fullShare T′.mir b o (LL.val T.the-type T′.the-laws h))) (W .laws .raw-at fullShare T′.mir b o (LL.val T.the-type T′.the-laws h)) $
-        move ! (1 ∷ []) $ peeks ! T.the-row (Is T.the-row) (shows 𝓤 H A T.the-row) h (LL.vals T.the-type T′.the-laws h) (λ was. move ! (1 ∷ 0 ∷ []) $
+        opens ! tt T.the-row {h = h} b o
+        (λ vs. spelt ! T.the-row (Is T.the-row) (shows 𝓤 H A T.the-row) (LL.vals T.the-type T′.the-laws)
+        (LL.tells T.the-type T′.the-laws) fullShare h vs b o $
+        use1 W (‵ (fat fullShare T′.mir b o (LL.val T.the-type T′.the-laws h)))
+        (W .laws .raw-at fullShare T′.mir b o (LL.val T.the-type T′.the-laws h)) $
+        move ! (1 ∷ []) $ peeks ! T.the-row (Is T.the-row) (shows 𝓤 H A T.the-row) h (LL.vals T.the-type T′.the-laws h)
+        (λ was. move ! (1 ∷ 0 ∷ []) $
         -- [the marking's cell; what it owns; the open borrow; obs; auth; 'a's token; what the others own; _5; …; _4; …; _3; …; .. _1; …; room for _0; …]
-        assigns ! (of-opd ! (load ! (from ! (hop ! (look ! 15 refl) (stop !))) (look ! 0 refl))) (from ! (stop !)) (init ! 7 refl (LL.lawful T.the-type T′.the-laws 𝓤 H A W .typed h _ was .0)) $
+        assigns ! (of-opd ! (load ! (from ! (hop ! (look ! 15 refl) (stop !))) (look ! 0 refl))) (from ! (stop !))
+        (init ! 7 refl (LL.lawful T.the-type T′.the-laws 𝓤 H A W .typed h _ was .0)) $
         move ! (5 ∷ 1 ∷ 6 ∷ []) $ use3 W (raw (Keeping 𝓤 H A at-mem run .pre to) ⊛ ‵ Rest) apart $ split ! $
         -- [what the callee asks; what the others own; the marking's cell; the open borrow; obs; auth; _5; …; .. _1; …; room for _0; …]
         calls-at ! fm (Keeping 𝓤 H A at-mem run) known to
-        (and-then ! (load ! (from ! (stop !)) (look ! 6 refl)) (and-then ! (load ! (from ! (stop !)) (look ! 12 refl)) (and-then ! (load ! (from ! (stop !)) (look ! 10 refl)) (no-more !)))) (λ u.
-        use1 W (later (some (λ (r : Kept). ((‵ (flft κ′ q′) ⊛ ‵ ftrue) ⊛ ‵ (S.the-row .own r (u ∷ []))) ⊛ raw (ensured 𝓤 H A keeping.ended (keeping.clauses 𝓤 H A at-mem run) (κ′, tt) (h, y) tt r)))) (id⊢ 𝓤 _) $ await ! tt $ pick ! (λ r.
+        (and-then ! (load ! (from ! (stop !)) (look ! 6 refl))
+        (and-then ! (load ! (from ! (stop !)) (look ! 12 refl)) (and-then ! (load ! (from ! (stop !)) (look ! 10 refl)) (no-more !))))
+        (λ u.
+        use1 W (later (some (λ (r : Kept).
+        ((‵ (flft κ′ q′) ⊛ ‵ ftrue) ⊛ ‵ (S.the-row .own r (u ∷ []))) ⊛ raw
+        (ensured 𝓤 H A keeping.ended (keeping.clauses 𝓤 H A at-mem run) (κ′, tt) (h, y) tt r)))) (id⊢ 𝓤 _) $ await ! tt $ pick ! (λ r.
         split ! $ move ! (1 ∷ []) $ use1 W (raw (fact 𝓤 (r ≡ found))) (told r) $ heard ! (r ≡ found) (λ e. split ! $ move ! (1 ∷ []) $
         -- [the result; the token; what the others own; the marking's cell; the open borrow; obs; auth; _5; …; room for _4; …; .. _1; …; room for _0; …]
         peeks ! S.the-row (Is S.the-row) (shows 𝓤 H A S.the-row) r (u ∷ []) (λ is.
         land ! (from ! (stop !)) (init ! 9 refl (LL.lawful S.the-type S′.the-laws 𝓤 H A W .typed r _ is .0)) $
         rewrite ! 9 (λ (v : Val). ‵ (fat fullShare S′.mir l₄ 0 v)) (ap only (LL.tells S.the-type S′.the-laws r (u ∷ []) is)) refl $
-        assigns ! (of-opd ! (load ! (from ! (fld ! refl (stop !))) (look-in ! 9 (sub ! 1 refl (whole !))))) (from ! (hop ! (look ! 15 refl) (stop !)))
-        (store ! 3 refl (LL.lawful T.the-type T′.the-laws 𝓤 H A W .typed (r .marking) _ (LL.owed S.the-type S′.the-laws r (u ∷ []) is .1 .0) .0)) $
+        assigns ! (of-opd ! (load ! (from ! (fld ! refl (stop !))) (look-in ! 9 (sub ! 1 refl (whole !)))))
+        (from ! (hop ! (look ! 15 refl) (stop !)))
+        (store ! 3 refl (LL.lawful T.the-type T′.the-laws 𝓤 H A W .typed (r .marking) _
+        (LL.owed S.the-type S′.the-laws r (u ∷ []) is .1 .0) .0)) $
         assigns ! (of-opd ! (load ! (from ! (fld ! refl (stop !))) (look-in ! 9 (sub ! 0 refl (whole !))))) (from ! (stop !))
-        (init ! 17 refl (EL.lawful N.the-type N′.the-laws 𝓤 H A W tt .typed (r .answer) _ (LL.owed S.the-type S′.the-laws r (u ∷ []) is .0) .0)) $
-        drop ! $ owned ! T.the-row (Is T.the-row) (LL.makes T.the-type T′.the-plain 𝓤 H A) (r .marking) _ (LL.owed S.the-type S′.the-laws r (u ∷ []) is .1 .0) $
-        move ! (3 ∷ []) $ use1 W (‵ (cellAt fullShare (T.the-row .mir) (markingVal r ∷ []) b o)) (W .laws .at-raw fullShare T′.mir b o (markingVal r)) $
+        (init ! 17 refl (EL.lawful N.the-type N′.the-laws 𝓤 H A W tt .typed (r .answer) _
+        (LL.owed S.the-type S′.the-laws r (u ∷ []) is .0) .0)) $
+        drop ! $ owned ! T.the-row (Is T.the-row) (LL.makes T.the-type T′.the-plain 𝓤 H A) (r .marking) _
+        (LL.owed S.the-type S′.the-laws r (u ∷ []) is .1 .0) $
+        move ! (3 ∷ []) $ use1 W (‵ (cellAt fullShare (T.the-row .mir) (markingVal r ∷ []) b o))
+        (W .laws .at-raw fullShare T′.mir b o (markingVal r)) $
         move ! (0 ∷ 1 ∷ 4 ∷ 5 ∷ 6 ∷ []) $ closes ! tt T.the-row (r .marking) (markingVal r ∷ []) b o $
         returns ! (look ! 15 refl) $
         forget ! 5 refl $ forget ! 7 refl $ forget ! 9 refl $ forget ! 11 refl $ forget ! 13 refl $ forget ! 15 refl $
-        move ! (15 ∷ 16 ∷ []) $ free1 ! $ move ! (13 ∷ 14 ∷ []) $ free1 ! $ move ! (11 ∷ 12 ∷ []) $ free1 ! $ move ! (9 ∷ 10 ∷ []) $ free1 ! $ move ! (7 ∷ 8 ∷ []) $ free1 ! $ move ! (5 ∷ 6 ∷ []) $ free1 ! $
+        move ! (15 ∷ 16 ∷ []) $ free1 ! $ move ! (13 ∷ 14 ∷ []) $ free1 ! $ move ! (11 ∷ 12 ∷ []) $ free1 ! $ move !
+        (9 ∷ 10 ∷ []) $ free1 ! $ move ! (7 ∷ 8 ∷ []) $ free1 ! $ move ! (5 ∷ 6 ∷ []) $ free1 ! $
         free0 ! $ keep ! (0 ∷ 1 ∷ 2 ∷ 3 ∷ 4 ∷ []) $ by ! (exits r e (LL.owed S.the-type S′.the-laws r (u ∷ []) is .0))))))))))))))
 
 module _ {M : Type 1} (𝓤 : URA M) (H : Heap 𝓤) (A : Atoms 𝓤) (W : Given 𝓤 H A) (at-mem : Memory → SProp 𝓤) (run : Routine → Fun 𝓤) where
   keep-walks : (C : Calls 𝓤 H) (Λ : Loops 𝓤 H) → FmC 𝓤 H (W .laws) C → Triple 𝓤 (C #kept·keeping) (Keeping 𝓤 H A at-mem run)
       → Walks 𝓤 H A f.ended stayed (WpFn 𝓤 H C Λ code.function) (f.clauses 𝓤 H A at-mem run)
-  keep-walks C Λ fm known = walked 𝓤 H A f.ended stayed (f.clauses 𝓤 H A at-mem run) (WpFn 𝓤 H C Λ code.function) (λ κs. (ptr-vals, sp (κs .1 .0)))
-      (λ κs. (mut-tells (named 0) (κs .0) T.the-row, (shr-tells (named 1) (κs .1 .0) (Array u64 tt 339), (LL.tells E.the-type E′.the-laws, tt))))
-      (λ κs qs bounds a _ are. via 𝓤 _ (fst∗ 𝓤 _ (emp 𝓤)) (walk 𝓤 H A W at-mem run (κs .0) (κs .1 .0) (qs .0) (qs .1 .0) (a .0 .ptr .0) (a .0 .ptr .1) (a .0 .name) (a .0 .now) (a .1) C Λ fm known (are .1)))
+  keep-walks C Λ fm known =
+      walked 𝓤 H A f.ended stayed (f.clauses 𝓤 H A at-mem run) (WpFn 𝓤 H C Λ code.function) (λ κs. (ptr-vals, sp (κs .1 .0)))
+      (λ κs. (
+        mut-tells (named 0) (κs .0) T.the-row,
+        (shr-tells (named 1) (κs .1 .0) (Array u64 tt 339), (LL.tells E.the-type E′.the-laws, tt)),
+      ))
+      (λ κs qs bounds a _ are.
+      via 𝓤 _ (fst∗ 𝓤 _ (emp 𝓤))
+      (walk 𝓤 H A W at-mem run (κs .0) (κs .1 .0) (qs .0) (qs .1 .0) (a .0 .ptr .0) (a .0 .ptr .1) (a .0 .name) (a .0 .now)
+      (a .1) C Λ fm known (are .1)))
 
   goes : AllGo 𝓤 H A W 2 (f.signature .params) (f.ended .kept) stayed
-  goes = (goes-ref 𝓤 H A W 2 0 tt (plain (λ _. T.the-row)), (goes-none-ref 𝓤 H A W 2 (1 ∷ []) tt words yes, (goes-none 𝓤 H A W 2 (λ _. E.the-row) yes (λ κs x f. refl), tt)))
+  goes = (
+    goes-ref 𝓤 H A W 2 0 tt (plain (λ _. T.the-row)),
+    (goes-none-ref 𝓤 H A W 2 (1 ∷ []) tt words yes, (goes-none 𝓤 H A W 2 (λ _. E.the-row) yes (λ κs x f. refl), tt)),
+  )
 
-keep-meets : {M : Type 1} (𝓤 : URA M) (H : Heap 𝓤) (A : Atoms 𝓤) (W : Given 𝓤 H A) (at-mem : Memory → SProp 𝓤) (run : Routine → Fun 𝓤) (𝓣 : Tables 𝓤 H)
+keep-meets : {M : Type 1} (𝓤 : URA M) (H : Heap 𝓤) (A : Atoms 𝓤) (W : Given 𝓤 H A) (at-mem : Memory → SProp 𝓤) (run : Routine → Fun 𝓤)
+    (𝓣 : Tables 𝓤 H)
     → Triple 𝓤 (𝓣 .C #kept·keeping) (Keeping 𝓤 H A at-mem run)
     → Meets 𝓤 H A f.signature (WpFn 𝓤 H (𝓣 .C) (𝓣 .Λ) code.function) (f.spec 𝓤 H A at-mem run)
-keep-meets 𝓤 H A W at-mem run 𝓣 known = walk-meets 𝓤 H A f.ended stayed W (goes 𝓤 H A W at-mem run) (f.clauses 𝓤 H A at-mem run) (WpFn 𝓤 H (𝓣 .C) (𝓣 .Λ) code.function) (WpFn-mono 𝓤 H (W .laws) 𝓣 code.function)
+keep-meets 𝓤 H A W at-mem run 𝓣 known =
+    walk-meets 𝓤 H A f.ended stayed W (goes 𝓤 H A W at-mem run) (f.clauses 𝓤 H A at-mem run) (WpFn 𝓤 H (𝓣 .C) (𝓣 .Λ) code.function)
+    (WpFn-mono 𝓤 H (W .laws) 𝓣 code.function)
     (keep-walks 𝓤 H A W at-mem run (𝓣 .C) (𝓣 .Λ) (fmOf 𝓤 H (W .laws) 𝓣) known)
 
 pub keep-spec : {M : Type 1} → stated.statement M
@@ -198,4 +240,5 @@ keep-spec 𝓤 H 𝓜 𝓖 𝓡 =
     entered 𝓤 H (tripleOf 𝓤 H (𝓖 .A) f.signature (f.spec 𝓤 H (𝓖 .A) (𝓜 .mem) (𝓡 .run)))
     (tables 𝓤 H 𝓜 𝓡 code.env .C) (tables 𝓤 H 𝓜 𝓡 code.env .Λ) #kept·keep code.function (code.unfolded 𝓤 H 𝓜 𝓡)
     (keep-meets 𝓤 H (𝓖 .A) (givenOf 𝓤 H 𝓜 𝓖) (𝓜 .mem) (𝓡 .run) (tablesOf 𝓤 H 𝓜 (tables 𝓤 H 𝓜 𝓡 code.env))
-    (cited 𝓤 H (Keeping 𝓤 H (𝓖 .A) (𝓜 .mem) (𝓡 .run)) 𝓜 𝓡 code.env #kept·keeping keeping-def.routine code.calls-kept·keeping (keeping-thm.met 𝓤 H 𝓜 𝓖 𝓡)))
+    (cited 𝓤 H (Keeping 𝓤 H (𝓖 .A) (𝓜 .mem) (𝓡 .run)) 𝓜 𝓡 code.env #kept·keeping keeping-def.routine code.calls-kept·keeping
+    (keeping-thm.met 𝓤 H 𝓜 𝓖 𝓡)))

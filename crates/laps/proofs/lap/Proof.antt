@@ -54,14 +54,17 @@ returns-2 c =
     let g : Graph = graphOf (a .g .now) in
     let s = a .stem .now in
     let l = a .lap .now in
-    let clear : graphVerdict g ≡ Verdict.Clear = sym (c .before .before .before .before .before .check .ensures) ∙ c .before .before .before .enum-told .given .1 in
-    lines-length g (a .m) s l clear (sym (ap₂ _&&_ (c .before .before .length-fits .ensures) (c .before .length-fits2 .ensures)) ∙ not-true _ (c .if1 .taken))
+    let clear : graphVerdict g ≡ Verdict.Clear = sym (c .before .before .before .before .before .check .ensures)
+    ∙ c .before .before .before .enum-told .given .1 in
+    lines-length g (a .m) s l clear
+    (sym (ap₂ _&&_ (c .before .before .length-fits .ensures) (c .before .length-fits2 .ensures)) ∙ not-true _ (c .if1 .taken))
 
 fits-requires : tie.Need-fits-requires
 fits-requires c κs =
     let a = c .before .before .before .before .before .before .before .before .before .args in
     let g : Graph = graphOf (a .g .now) in
-    let clear : graphVerdict g ≡ Verdict.Clear = sym (c .before .before .before .before .before .check .ensures) ∙ c .before .before .before .enum-told .given .1 in
+    let clear : graphVerdict g ≡ Verdict.Clear = sym (c .before .before .before .before .before .check .ensures)
+    ∙ c .before .before .before .enum-told .given .1 in
     let b : Counted (g .steps) (g .people) (g .roles) = clear-counts g clear in
     b .steps-most
 
@@ -72,8 +75,11 @@ returns-3 c =
     let g : Graph = graphOf (a .g .now) in
     let s = a .stem .now in
     let l = a .lap .now in
-    let clear : graphVerdict g ≡ Verdict.Clear = sym (c .before .before .before .before .before .before .before .check .ensures) ∙ c .before .before .before .before .before .enum-told .given .1 in
-    let long : (lengthFits s && lengthFits l) ≡ true = sym (ap₂ _&&_ (c .before .before .before .before .length-fits .ensures) (c .before .before .before .length-fits2 .ensures)) ∙ not-false _ (c .before .before .if1 .left) in
+    let clear : graphVerdict g ≡ Verdict.Clear = sym (c .before .before .before .before .before .before .before .check .ensures)
+    ∙ c .before .before .before .before .before .enum-told .given .1 in
+    let long : (lengthFits s && lengthFits l) ≡ true =
+    sym (ap₂ _&&_ (c .before .before .before .before .length-fits .ensures) (c .before .before .before .length-fits2 .ensures))
+    ∙ not-false _ (c .before .before .if1 .left) in
     lines-outside g (a .m) s l clear long (sym (c .before .fits2 .ensures) ∙ not-true _ (c .if2 .taken))
 
 returns-4 : tie.Need-returns-4
@@ -83,8 +89,11 @@ returns-4 c =
     let g : Graph = graphOf (a .g .now) in
     let s = a .stem .now in
     let l = a .lap .now in
-    let clear : graphVerdict g ≡ Verdict.Clear = sym (c .before .before .before .before .before .before .before .before .check .ensures) ∙ c .before .before .before .before .before .before .enum-told .given .1 in
-    let long : (lengthFits s && lengthFits l) ≡ true = sym (ap₂ _&&_ (c .before .before .before .before .before .length-fits .ensures) (c .before .before .before .before .length-fits2 .ensures)) ∙ not-false _ (c .before .before .before .if1 .left) in
+    let clear : graphVerdict g ≡ Verdict.Clear = sym (c .before .before .before .before .before .before .before .before .check .ensures)
+    ∙ c .before .before .before .before .before .before .enum-told .given .1 in
+    let long : (lengthFits s && lengthFits l) ≡ true =
+    sym (ap₂ _&&_ (c .before .before .before .before .before .length-fits .ensures)
+    (c .before .before .before .before .length-fits2 .ensures)) ∙ not-false _ (c .before .before .before .if1 .left) in
     let within : markingFits (g .steps) (a .m) ≡ true = sym (c .before .before .fits2 .ensures) ∙ not-false _ (c .before .if2 .left) in
     lines-empty g (a .m) s l clear long within (eq-eqb _ _ (c .if3 .taken))
 
@@ -94,8 +103,11 @@ decide-requires c κs =
     let g : Graph = graphOf (a .g .now) in
     let s = a .stem .now in
     let l = a .lap .now in
-    let clear : graphVerdict g ≡ Verdict.Clear = sym (c .before .before .before .before .before .before .before .before .check .ensures) ∙ c .before .before .before .before .before .before .enum-told .given .1 in
-    let long : (lengthFits s && lengthFits l) ≡ true = sym (ap₂ _&&_ (c .before .before .before .before .before .length-fits .ensures) (c .before .before .before .before .length-fits2 .ensures)) ∙ not-false _ (c .before .before .before .if1 .left) in
+    let clear : graphVerdict g ≡ Verdict.Clear = sym (c .before .before .before .before .before .before .before .before .check .ensures)
+    ∙ c .before .before .before .before .before .before .enum-told .given .1 in
+    let long : (lengthFits s && lengthFits l) ≡ true =
+    sym (ap₂ _&&_ (c .before .before .before .before .before .length-fits .ensures)
+    (c .before .before .before .before .length-fits2 .ensures)) ∙ not-false _ (c .before .before .before .if1 .left) in
     let fs : lengthFits s ≡ true = and-left (lengthFits s) (lengthFits l) long in
     let fl : lengthFits l ≡ true = and-right (lengthFits s) (lengthFits l) long in
     (clear, fits-threes s fs, fits-most s fs, fits-threes l fl, fits-most l fl)
@@ -106,11 +118,17 @@ returns-5 c =
     let g : Graph = graphOf (a .g .now) in
     let s = a .stem .now in
     let l = a .lap .now in
-    let clear : graphVerdict g ≡ Verdict.Clear = sym (c .before .before .before .before .before .before .before .before .before .check .ensures) ∙ c .before .before .before .before .before .before .before .enum-told .given .1 in
-    let long : (lengthFits s && lengthFits l) ≡ true = sym (ap₂ _&&_ (c .before .before .before .before .before .before .length-fits .ensures) (c .before .before .before .before .before .length-fits2 .ensures)) ∙ not-false _ (c .before .before .before .before .if1 .left) in
-    let within : markingFits (g .steps) (a .m) ≡ true = sym (c .before .before .before .fits2 .ensures) ∙ not-false _ (c .before .before .if2 .left) in
+    let clear : graphVerdict g ≡ Verdict.Clear =
+    sym (c .before .before .before .before .before .before .before .before .before .check .ensures)
+    ∙ c .before .before .before .before .before .before .before .enum-told .given .1 in
+    let long : (lengthFits s && lengthFits l) ≡ true =
+    sym (ap₂ _&&_ (c .before .before .before .before .before .before .length-fits .ensures)
+    (c .before .before .before .before .before .length-fits2 .ensures)) ∙ not-false _ (c .before .before .before .before .if1 .left) in
+    let within : markingFits (g .steps) (a .m) ≡ true = sym (c .before .before .before .fits2 .ensures)
+    ∙ not-false _ (c .before .before .if2 .left) in
     let some : eqb (length l) 0 ≡ false = ne-eqb _ _ (c .before .if3 .left) in
-    subst (LapAnswer g (a .m) s l) (sym (c .decide .ensures)) (decision-right g (a .m) s l (lines-clear g (a .m) s l clear long within some))
+    subst (LapAnswer g (a .m) s l) (sym (c .decide .ensures))
+    (decision-right g (a .m) s l (lines-clear g (a .m) s l clear long within some))
 
 pub lap-spec : {M : Type 1} → statement M
 lap-spec =

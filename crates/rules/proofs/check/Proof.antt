@@ -68,7 +68,9 @@ arrows-checked-requires : tie.Need-arrows-checked-requires
 arrows-checked-requires c κs =
     let a = c .before .before .before .before .before .before .before .before .before .before .args in
     let l : length (a .g .now) ≡ 339 = c .before .before .before .before .w .given .0 in
-    let b : Counted (row (a .g .now) 0) (row (a .g .now) 1) (row (a .g .now) 2) = counts-bound _ _ _ (sym (c .before .before .before .before .before .before .counts-fit .ensures) ∙ not-false _ (c .before .before .before .before .before .if1 .left)) in (
+    let b : Counted (row (a .g .now) 0) (row (a .g .now) 1) (row (a .g .now) 2) =
+    counts-bound _ _ _ (sym (c .before .before .before .before .before .before .counts-fit .ensures)
+    ∙ not-false _ (c .before .before .before .before .before .if1 .left)) in (
       b .steps-most,
       record {
         first = rows-at 3 64 (a .g .now) (omega arith);
@@ -100,30 +102,46 @@ roles-fit-requires : tie.Need-roles-fit-requires
 roles-fit-requires c κs =
     let a = c .before .before .before .before .before .before .before .before .before .before .before .before .before .args in
     let l : length (a .g .now) ≡ 339 = c .before .before .before .before .before .before .before .w .given .0 in
-    let b : Counted (row (a .g .now) 0) (row (a .g .now) 1) (row (a .g .now) 2) = counts-bound _ _ _ (sym (c .before .before .before .before .before .before .before .before .before .counts-fit .ensures) ∙ not-false _ (c .before .before .before .before .before .before .before .before .if1 .left)) in
+    let b : Counted (row (a .g .now) 0) (row (a .g .now) 1) (row (a .g .now) 2) =
+    counts-bound _ _ _ (sym (c .before .before .before .before .before .before .before .before .before .counts-fit .ensures)
+    ∙ not-false _ (c .before .before .before .before .before .before .before .before .if1 .left)) in
     (b .steps-most, b .people-most, b .roles-most, rows-at 259 64 (a .g .now) (omega arith), rows-at 323 16 (a .g .now) (omega arith))
 
 returns-2 : tie.Need-returns-2
 unfolding first setsFit
 returns-2 c =
-    let g : Graph = graphOf (c .before .before .before .before .before .before .before .before .before .before .before .before .before .before .before .before .args .g .now) in
-    let fit : setsFit g ≡ (c .before .before .roles-fit .result && c .before .before .before .before .before .arrows-checked .result .fit) = sym (ap₂ _&&_ (c .before .before .roles-fit .ensures) (c .before .before .before .before .before .arrows-checked .ensures .0)) in
+    let g : Graph = graphOf
+    (c .before .before .before .before .before .before .before .before .before .before .before .before .before .before .before .before .args .g .now) in
+    let fit : setsFit g ≡ (c .before .before .roles-fit .result && c .before .before .before .before .before .arrows-checked .result .fit) =
+    sym (ap₂ _&&_ (c .before .before .roles-fit .ensures) (c .before .before .before .before .before .arrows-checked .ensures .0)) in
     simp (ap not (sym (c .before .before .before .before .before .before .before .before .before .before .before .before .counts-fit .ensures)) ∙ c .before .before .before .before .before .before .before .before .before .before .before .if1 .left, ap not fit ∙ c .if2 .taken)
 
 returns-3 : tie.Need-returns-3
 unfolding first setsFit
 returns-3 c =
-    let g : Graph = graphOf (c .before .before .before .before .before .before .before .before .before .before .before .before .before .before .before .before .before .before .args .g .now) in
-    let fit : setsFit g ≡ (c .before .before .before .before .roles-fit .result && c .before .before .before .before .before .before .before .arrows-checked .result .fit) = sym (ap₂ _&&_ (c .before .before .before .before .roles-fit .ensures) (c .before .before .before .before .before .before .before .arrows-checked .ensures .0)) in
-    let apart : kindsApart (g .steps) (g .includes) (g .excludes) ≡ c .before .before .before .before .before .before .before .arrows-checked .result .apart = sym (c .before .before .before .before .before .before .before .arrows-checked .ensures .1) in
+    let g : Graph = graphOf
+    (c .before .before .before .before .before .before .before .before .before .before .before .before .before .before .before .before .before .before .args .g .now) in
+    let fit : setsFit g ≡ (c .before .before .before .before .roles-fit .result
+    && c .before .before .before .before .before .before .before .arrows-checked .result .fit) =
+    sym (ap₂ _&&_ (c .before .before .before .before .roles-fit .ensures)
+    (c .before .before .before .before .before .before .before .arrows-checked .ensures .0)) in
+    let apart : kindsApart (g .steps) (g .includes)
+    (g .excludes) ≡ c .before .before .before .before .before .before .before .arrows-checked .result .apart =
+    sym (c .before .before .before .before .before .before .before .arrows-checked .ensures .1) in
     simp (ap not (sym (c .before .before .before .before .before .before .before .before .before .before .before .before .before .before .counts-fit .ensures)) ∙ c .before .before .before .before .before .before .before .before .before .before .before .before .before .if1 .left, ap not fit ∙ c .before .before .if2 .left, ap not apart ∙ c .if3 .taken)
 
 returns-4 : tie.Need-returns-4
 unfolding first setsFit
 returns-4 c =
-    let g : Graph = graphOf (c .before .before .before .before .before .before .before .before .before .before .before .before .before .before .before .before .before .before .args .g .now) in
-    let fit : setsFit g ≡ (c .before .before .before .before .roles-fit .result && c .before .before .before .before .before .before .before .arrows-checked .result .fit) = sym (ap₂ _&&_ (c .before .before .before .before .roles-fit .ensures) (c .before .before .before .before .before .before .before .arrows-checked .ensures .0)) in
-    let apart : kindsApart (g .steps) (g .includes) (g .excludes) ≡ c .before .before .before .before .before .before .before .arrows-checked .result .apart = sym (c .before .before .before .before .before .before .before .arrows-checked .ensures .1) in
+    let g : Graph = graphOf
+    (c .before .before .before .before .before .before .before .before .before .before .before .before .before .before .before .before .before .before .args .g .now) in
+    let fit : setsFit g ≡ (c .before .before .before .before .roles-fit .result
+    && c .before .before .before .before .before .before .before .arrows-checked .result .fit) =
+    sym (ap₂ _&&_ (c .before .before .before .before .roles-fit .ensures)
+    (c .before .before .before .before .before .before .before .arrows-checked .ensures .0)) in
+    let apart : kindsApart (g .steps) (g .includes)
+    (g .excludes) ≡ c .before .before .before .before .before .before .before .arrows-checked .result .apart =
+    sym (c .before .before .before .before .before .before .before .arrows-checked .ensures .1) in
     simp (ap not (sym (c .before .before .before .before .before .before .before .before .before .before .before .before .before .before .counts-fit .ensures)) ∙ c .before .before .before .before .before .before .before .before .before .before .before .before .before .if1 .left, ap not fit ∙ c .before .before .if2 .left, ap not apart ∙ c .if3 .left)
 
 pub check-spec : {M : Type 1} → statement M

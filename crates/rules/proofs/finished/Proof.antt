@@ -24,12 +24,16 @@ element-copy-out-finished-on : tie.Need-element-copy-out-finished-on
 element-copy-out-finished-on c = search needs
 
 finished-on-requires : tie.Need-finished-on-requires
-finished-on-requires c κs = clear-counts (graphOf (c .before .before .before .before .args .g .now)) (sym (c .before .before .before .check .ensures) ∙ c .before .enum-told .given .1) .steps-most
+finished-on-requires c κs =
+    clear-counts (graphOf (c .before .before .before .before .args .g .now))
+    (sym (c .before .before .before .check .ensures) ∙ c .before .enum-told .given .1) .steps-most
 
 returns-2 : tie.Need-returns-2
 returns-2 c =
     let a = c .before .before .before .before .before .args in
-    c .finished-on .ensures ∙ sym (ending-clear (graphOf (a .g .now)) (a .m) (sym (c .before .before .before .before .check .ensures) ∙ c .before .before .enum-told .given .1))
+    c .finished-on .ensures
+    ∙ sym (ending-clear (graphOf (a .g .now)) (a .m)
+    (sym (c .before .before .before .before .check .ensures) ∙ c .before .before .enum-told .given .1))
 
 pub finished-spec : {M : Type 1} → statement M
 finished-spec =

@@ -26,7 +26,8 @@ take-on-requires c κs = sym (c .before .before .check .ensures) ∙ c .enum-tol
 returns-2 : tie.Need-returns-2
 returns-2 c =
     let a = c .before .before .before .before .args in
-    c .take-on .ensures ∙ sym (move-clear (graphOf (a .g .now)) (a .m) (a .e) (sym (c .before .before .before .check .ensures) ∙ c .before .enum-told .given .1))
+    c .take-on .ensures ∙ sym
+    (move-clear (graphOf (a .g .now)) (a .m) (a .e) (sym (c .before .before .before .check .ensures) ∙ c .before .enum-told .given .1))
 
 pub take-spec : {M : Type 1} → statement M
 take-spec =

@@ -36,7 +36,8 @@ returns-2 : tie.Need-returns-2
 returns-2 c =
     let n = c .before .before .args .n in
     ap (λ (x : ℕ). x + (x - 1)) (c .single .ensures) ∙ full-double (n - 1)
-    ∙ ap full (let z : n - 1 + 1 ≡ n = ne-cases n 0 (n - 1 + 1 ≡ n) (c .before .if1 .left) (λ h. absurd (not-suc-le-zero h)) (λ h. omega arith) in z)
+    ∙ ap full (let z : n - 1 + 1 ≡ n =
+    ne-cases n 0 (n - 1 + 1 ≡ n) (c .before .if1 .left) (λ h. absurd (not-suc-le-zero h)) (λ h. omega arith) in z)
 
 pub full-spec : {M : Type 1} → statement M
 full-spec = tie.close (tie.spec returns sub-single cast-single single-requires sub-result add-result returns-2)

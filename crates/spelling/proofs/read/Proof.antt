@@ -27,21 +27,44 @@ shared-slice-read-if3 c = search needs
 
 returns-3 : tie.Need-returns-3
 unfolding theReading recordedOf first
-returns-3 c = simp (ap not (sym (c .before .before .before .before .counts .ensures)) ∙ c .before .before .before .if1 .left, eq-eqb _ 65 (c .before .before .if2 .left), lt-leb _ _ (c .if3 .taken))
+returns-3 c = simp (
+  ap not (sym (c .before .before .before .before .counts .ensures)) ∙ c .before .before .before .if1 .left,
+  eq-eqb _ 65 (c .before .before .if2 .left),
+  lt-leb _ _ (c .if3 .taken),
+)
 
 record-at-requires : tie.Need-record-at-requires
 record-at-requires c κs = search needs
 
 well-formed-requires : tie.Need-well-formed-requires
-well-formed-requires c κs = counts-most (c .before .before .before .before .before .before .before .args .n) (sym (c .before .before .before .before .before .counts .ensures) ∙ not-false _ (c .before .before .before .before .if1 .left))
+well-formed-requires c κs =
+    counts-most (c .before .before .before .before .before .before .before .args .n)
+    (sym (c .before .before .before .before .before .counts .ensures) ∙ not-false _ (c .before .before .before .before .if1 .left))
 
 returns-4 : tie.Need-returns-4
 unfolding theReading recordedOf first
-returns-4 c = simp (ap not (sym (c .before .before .before .before .before .before .before .counts .ensures)) ∙ c .before .before .before .before .before .before .if1 .left, eq-eqb _ 65 (c .before .before .before .before .before .if2 .left), le-leb _ _ (c .before .before .before .if3 .left), ap not (sym (c .before .well-formed .ensures ∙ ap (wellFormed (c .before .before .before .before .before .before .before .before .before .args .n)) (c .before .before .record-at .ensures))) ∙ c .if4 .taken)
+returns-4 c = simp (
+  ap not (sym (c .before .before .before .before .before .before .before .counts .ensures))
+      ∙ c .before .before .before .before .before .before .if1 .left,
+  eq-eqb _ 65 (c .before .before .before .before .before .if2 .left),
+  le-leb _ _ (c .before .before .before .if3 .left),
+  ap not (sym (c .before .well-formed .ensures
+      ∙ ap (wellFormed (c .before .before .before .before .before .before .before .before .before .args .n))
+      (c .before .before .record-at .ensures))) ∙ c .if4 .taken,
+)
 
 returns-5 : tie.Need-returns-5
 unfolding theReading recordedOf first
-returns-5 c = simp (ap not (sym (c .before .before .before .before .before .before .before .counts .ensures)) ∙ c .before .before .before .before .before .before .if1 .left, eq-eqb _ 65 (c .before .before .before .before .before .if2 .left), le-leb _ _ (c .before .before .before .if3 .left), ap not (sym (c .before .well-formed .ensures ∙ ap (wellFormed (c .before .before .before .before .before .before .before .before .before .args .n)) (c .before .before .record-at .ensures))) ∙ c .if4 .left, c .before .before .record-at .ensures)
+returns-5 c = simp (
+  ap not (sym (c .before .before .before .before .before .before .before .counts .ensures))
+      ∙ c .before .before .before .before .before .before .if1 .left,
+  eq-eqb _ 65 (c .before .before .before .before .before .if2 .left),
+  le-leb _ _ (c .before .before .before .if3 .left),
+  ap not (sym (c .before .well-formed .ensures
+      ∙ ap (wellFormed (c .before .before .before .before .before .before .before .before .before .args .n))
+      (c .before .before .record-at .ensures))) ∙ c .if4 .left,
+  c .before .before .record-at .ensures,
+)
 
 pub read-spec : {M : Type 1} → statement M
 read-spec =

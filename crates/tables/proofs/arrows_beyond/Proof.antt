@@ -14,15 +14,20 @@ use Rattle.tables.proofs.arrows_beyond.Statement.{statement}
 use Rattle.tables.proofs.arrows_beyond.Tie as tie
 
 abbrev Inv-loop : tie.InvT-loop
-Inv-loop conditions responses includes excludes count found₀ i₀ found i = (count ≤ i) × (i ≤ 64) × (found ≡ gather i (beyond count (rowsTogether conditions responses includes excludes)))
+Inv-loop conditions responses includes excludes count found₀ i₀ found i = (count ≤ i) × (i ≤ 64)
+    × (found ≡ gather i (beyond count (rowsTogether conditions responses includes excludes)))
 
 abbrev μ-loop : tie.MeasureT-loop
 μ-loop conditions responses includes excludes count found₀ i₀ found i = 64 - i
 
 loop-holds : tie.Need-loop-holds Inv-loop μ-loop
 loop-holds c =
-    let a = c .args in
-    (search needs, search needs, sym (gather-front (a .count) (a .count) (rowsTogether (a .conditions .now) (a .responses .now) (a .includes .now) (a .excludes .now)) (le-refl (a .count))))
+    let a = c .args in (
+      search needs,
+      search needs,
+      sym (gather-front (a .count) (a .count)
+          (rowsTogether (a .conditions .now) (a .responses .now) (a .includes .now) (a .excludes .now)) (le-refl (a .count))),
+    )
 
 mul-found : tie.Need-mul-found Inv-loop μ-loop
 mul-found c = search needs
@@ -61,14 +66,17 @@ loop-again c =
     let rows = rowsTogether (a .conditions .now) (a .responses .now) (a .includes .now) (a .excludes .now) in (
       search needs,
       search needs,
-      ap₂ union (l .inv .2) (sym (ap (λ (b : Bool). cond b 0 (rows (l .i))) (le-ltb (l .i) (a .count) (l .inv .0)))) ∙ sym (gather-more (l .i) (beyond (a .count) rows)),
+      ap₂ union (l .inv .2) (sym (ap (λ (b : Bool). cond b 0 (rows (l .i))) (le-ltb (l .i) (a .count) (l .inv .0))))
+          ∙ sym (gather-more (l .i) (beyond (a .count) rows)),
     )
 
 returns : tie.Need-returns Inv-loop μ-loop
 returns c =
     let a = c .before .before .args in
     c .before .loop .inv .2
-    ∙ ap (λ (k : ℕ). gather k (beyond (a .count) (rowsTogether (a .conditions .now) (a .responses .now) (a .includes .now) (a .excludes .now)))) (let e : c .before .loop .i ≡ 64 = omega arith in e)
+    ∙ ap (λ (k : ℕ). gather k
+    (beyond (a .count) (rowsTogether (a .conditions .now) (a .responses .now) (a .includes .now) (a .excludes .now))))
+    (let e : c .before .loop .i ≡ 64 = omega arith in e)
 
 pub arrows-beyond-spec : {M : Type 1} → statement M
 arrows-beyond-spec =

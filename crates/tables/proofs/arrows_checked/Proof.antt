@@ -13,7 +13,9 @@ arrows-full-requires c κs = search needs
 returns : tie.Need-returns
 returns c =
     let a = c .before .before .before .before .before .before .args in (
-      c .arrows-full .ensures .0 ∙ ap (λ (k : ℕ). arrowsFit k (a .conditions .now) (a .responses .now) (a .includes .now) (a .excludes .now)) (sym (c .before .if1 .taken)),
+      c .arrows-full .ensures .0
+          ∙ ap (λ (k : ℕ). arrowsFit k (a .conditions .now) (a .responses .now) (a .includes .now) (a .excludes .now))
+          (sym (c .before .if1 .taken)),
       c .arrows-full .ensures .1 ∙ ap (λ (k : ℕ). kindsApart k (a .includes .now) (a .excludes .now)) (sym (c .before .if1 .taken)),
     )
 
@@ -30,7 +32,10 @@ returns-2 : tie.Need-returns-2
 returns-2 c =
     let a = c .before .before .before .before .before .before .before .before .before .before .args in
     let l = c .before .before .before .before .before .before .before .before .before .before .pre .1 in (
-      arrows-keep (a .steps) (a .conditions .now) (a .responses .now) (a .includes .now) (a .excludes .now) _ _ _ (c .before .before .full .ensures) (c .before .before .before .before .before .before .before .before .before .before .pre .0) (l .first) (l .second) (l .third) (l .fourth) (c .before .before .before .before .arrows-named .ensures .0) (c .before .before .before .arrows-beyond .ensures),
+      arrows-keep (a .steps) (a .conditions .now) (a .responses .now) (a .includes .now) (a .excludes .now) _ _ _
+          (c .before .before .full .ensures) (c .before .before .before .before .before .before .before .before .before .before .pre .0)
+          (l .first) (l .second) (l .third) (l .fourth) (c .before .before .before .before .arrows-named .ensures .0)
+          (c .before .before .before .arrows-beyond .ensures),
       shared-apart (a .steps) (a .includes .now) (a .excludes .now) _ (c .before .before .before .before .arrows-named .ensures .1),
     )
 

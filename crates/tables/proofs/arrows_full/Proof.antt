@@ -11,8 +11,12 @@ arrows-shared-requires c κs = search needs
 returns : tie.Need-returns
 returns c =
     let a = c .before .before .before .before .before .args in (
-      words-fit (a .conditions .now) (a .responses .now) (a .includes .now) (a .excludes .now) (c .before .before .before .before .before .pre)
-          (λ i. omega (arith, c .before .before .before .before .shared-slice-known .given i)) (λ i. omega (arith, c .before .before .before .shared-slice-known2 .given i)) (λ i. omega (arith, c .before .before .shared-slice-known3 .given i)) (λ i. omega (arith, c .before .shared-slice-known4 .given i)),
+      words-fit (a .conditions .now) (a .responses .now) (a .includes .now) (a .excludes .now)
+          (c .before .before .before .before .before .pre)
+          (λ i. omega (arith, c .before .before .before .before .shared-slice-known .given i))
+          (λ i. omega (arith, c .before .before .before .shared-slice-known2 .given i))
+          (λ i. omega (arith, c .before .before .shared-slice-known3 .given i))
+          (λ i. omega (arith, c .before .shared-slice-known4 .given i)),
       shared-apart 64 (a .includes .now) (a .excludes .now) _ (c .arrows-shared .ensures),
     )
 

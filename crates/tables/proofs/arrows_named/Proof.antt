@@ -10,7 +10,8 @@ use Rattle.tables.proofs.arrows_named.Statement.{statement}
 use Rattle.tables.proofs.arrows_named.Tie as tie
 
 abbrev Inv-loop : tie.InvT-loop
-Inv-loop conditions responses includes excludes count all₀ both₀ i₀ all both i = (i ≤ count) × (all ≡ gather i (rowsTogether conditions responses includes excludes)) × (both ≡ gather i (rowsShared includes excludes))
+Inv-loop conditions responses includes excludes count all₀ both₀ i₀ all both i = (i ≤ count)
+    × (all ≡ gather i (rowsTogether conditions responses includes excludes)) × (both ≡ gather i (rowsShared includes excludes))
 
 abbrev μ-loop : tie.MeasureT-loop
 μ-loop conditions responses includes excludes count all₀ both₀ i₀ all both i = count - i
@@ -54,15 +55,20 @@ loop-again c =
     let l = c .before .before .before .before .before .loop in
     let a = c .before .before .before .before .before .before .args in
     let rows = rowsTogether (a .conditions .now) (a .responses .now) (a .includes .now) (a .excludes .now) in
-    let shared = rowsShared (a .includes .now) (a .excludes .now) in
-    (search needs, ap (λ (x : ℕ). union x (rows (l .i))) (l .inv .1) ∙ sym (gather-more (l .i) rows), ap (λ (x : ℕ). union x (shared (l .i))) (l .inv .2) ∙ sym (gather-more (l .i) shared))
+    let shared = rowsShared (a .includes .now) (a .excludes .now) in (
+      search needs,
+      ap (λ (x : ℕ). union x (rows (l .i))) (l .inv .1) ∙ sym (gather-more (l .i) rows),
+      ap (λ (x : ℕ). union x (shared (l .i))) (l .inv .2) ∙ sym (gather-more (l .i) shared),
+    )
 
 returns : tie.Need-returns Inv-loop μ-loop
 returns c =
     let a = c .before .before .args in
     let l = c .before .loop in
-    let e : l .i ≡ a .count = omega arith in
-    (l .inv .1 ∙ ap (λ (k : ℕ). gather k (rowsTogether (a .conditions .now) (a .responses .now) (a .includes .now) (a .excludes .now))) e, l .inv .2 ∙ ap (λ (k : ℕ). gather k (rowsShared (a .includes .now) (a .excludes .now))) e)
+    let e : l .i ≡ a .count = omega arith in (
+      l .inv .1 ∙ ap (λ (k : ℕ). gather k (rowsTogether (a .conditions .now) (a .responses .now) (a .includes .now) (a .excludes .now))) e,
+      l .inv .2 ∙ ap (λ (k : ℕ). gather k (rowsShared (a .includes .now) (a .excludes .now))) e,
+    )
 
 pub arrows-named-spec : {M : Type 1} → statement M
 arrows-named-spec =

@@ -47,7 +47,8 @@ loop-again c =
 returns : tie.Need-returns Inv-loop μ-loop
 returns c =
     let a = c .before .before .args in
-    c .before .loop .inv .1 ∙ ap (λ (k : ℕ). gather k (rowsShared (a .includes .now) (a .excludes .now))) (let e : c .before .loop .i ≡ 64 = omega arith in e)
+    c .before .loop .inv .1
+    ∙ ap (λ (k : ℕ). gather k (rowsShared (a .includes .now) (a .excludes .now))) (let e : c .before .loop .i ≡ 64 = omega arith in e)
 
 pub arrows-shared-spec : {M : Type 1} → statement M
 arrows-shared-spec =

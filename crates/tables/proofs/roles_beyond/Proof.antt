@@ -45,14 +45,16 @@ loop-again c =
     let rows = row (a .table .now) in (
       search needs,
       search needs,
-      ap₂ union (l .inv .2) (sym (ap (λ (b : Bool). cond b 0 (rows (l .i))) (le-ltb (l .i) (a .count) (l .inv .0)))) ∙ sym (gather-more (l .i) (beyond (a .count) rows)),
+      ap₂ union (l .inv .2) (sym (ap (λ (b : Bool). cond b 0 (rows (l .i))) (le-ltb (l .i) (a .count) (l .inv .0))))
+          ∙ sym (gather-more (l .i) (beyond (a .count) rows)),
     )
 
 returns : tie.Need-returns Inv-loop μ-loop
 returns c =
     let a = c .before .before .args in
     c .before .loop .inv .2
-    ∙ ap (λ (k : ℕ). gather k (beyond (a .count) (row (a .table .now)))) (let e : c .before .loop .i ≡ length (a .table .now) = omega arith in e)
+    ∙ ap (λ (k : ℕ). gather k (beyond (a .count) (row (a .table .now))))
+    (let e : c .before .loop .i ≡ length (a .table .now) = omega arith in e)
 
 pub roles-beyond-spec : {M : Type 1} → statement M
 roles-beyond-spec =

@@ -14,7 +14,8 @@ roles-full-requires c κs = search needs
 returns : tie.Need-returns
 returns c =
     let a = c .before .before .before .before .args in
-    c .roles-full .ensures ∙ ap (λ (k : ℕ). rolesFit k (a .people) (a .roles) (a .allows .now) (a .holds .now)) (sym (c .before .if1 .taken))
+    c .roles-full .ensures
+    ∙ ap (λ (k : ℕ). rolesFit k (a .people) (a .roles) (a .allows .now) (a .holds .now)) (sym (c .before .if1 .taken))
 
 roles-named-requires : tie.Need-roles-named-requires
 roles-named-requires c κs = search needs
@@ -35,7 +36,9 @@ returns-2 : tie.Need-returns-2
 returns-2 c =
     let a = c .before .before .before .before .before .before .before .before .args in
     let l = c .before .before .before .before .before .before .before .before .pre in
-    roles-keep (a .steps) (a .people) (a .roles) (a .allows .now) (a .holds .now) _ _ _ _ _ (c .full .ensures) (omega arith) (omega arith) (c .before .before .before .before .roles-named .ensures) (c .before .before .before .roles-named2 .ensures) (c .before .before .roles-beyond .ensures) (c .before .roles-beyond2 .ensures)
+    roles-keep (a .steps) (a .people) (a .roles) (a .allows .now) (a .holds .now) _ _ _ _ _ (c .full .ensures) (omega arith) (omega arith)
+    (c .before .before .before .before .roles-named .ensures) (c .before .before .before .roles-named2 .ensures)
+    (c .before .before .roles-beyond .ensures) (c .before .roles-beyond2 .ensures)
 
 pub roles-fit-spec : {M : Type 1} → statement M
 roles-fit-spec =

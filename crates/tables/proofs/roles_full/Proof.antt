@@ -21,7 +21,9 @@ returns : tie.Need-returns
 returns c =
     let a = c .before .before .before .before .before .before .args in
     let l = c .before .before .before .before .before .before .pre in
-    roles-keep 64 (a .people) (a .roles) (a .allows .now) (a .holds .now) _ _ _ 0 _ (c .full .ensures) (omega arith) (omega arith) (c .before .before .before .roles-named .ensures) (c .before .before .roles-named2 .ensures) (beyond-64 (a .allows .now) (l .2)) (c .before .roles-beyond .ensures)
+    roles-keep 64 (a .people) (a .roles) (a .allows .now) (a .holds .now) _ _ _ 0 _ (c .full .ensures) (omega arith) (omega arith)
+    (c .before .before .before .roles-named .ensures) (c .before .before .roles-named2 .ensures) (beyond-64 (a .allows .now) (l .2))
+    (c .before .roles-beyond .ensures)
 
 pub roles-full-spec : {M : Type 1} → statement M
 roles-full-spec =

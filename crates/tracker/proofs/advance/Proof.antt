@@ -40,13 +40,16 @@ returns-2 : tie.Need-returns-2
 returns-2 c =
     let a = c .before .before .before .before .before .before .args in
     let g : Graph = graphOf (a .g .now) in
-    sym (step-unranked g (a .t) (a .e) (sym (c .before .before .before .before .before .sound .ensures) ∙ c .before .before .before .enum-told .given .1) (sym (c .before .ranked .ensures) ∙ not-true _ (c .if1 .taken)))
+    sym (step-unranked g (a .t) (a .e)
+    (sym (c .before .before .before .before .before .sound .ensures) ∙ c .before .before .before .enum-told .given .1)
+    (sym (c .before .ranked .ensures) ∙ not-true _ (c .if1 .taken)))
 
 enter-requires : tie.Need-enter-requires
 enter-requires c κs =
     let a = c .before .before .before .before .before .before .args in
     let g : Graph = graphOf (a .g .now) in
-    clear-graph g (a .t .marking) (sym (c .before .before .before .before .before .sound .ensures) ∙ c .before .before .before .enum-told .given .1)
+    clear-graph g (a .t .marking)
+    (sym (c .before .before .before .before .before .sound .ensures) ∙ c .before .before .before .enum-told .given .1)
 
 enum-known-o : tie.Need-enum-known-o
 enum-known-o c = search needs
@@ -58,8 +61,13 @@ follow-requires : tie.Need-follow-requires
 follow-requires c κs =
     let a = c .before .before .before .before .before .before .before .before .before .before .args in
     let g : Graph = graphOf (a .g .now) in
-    let most : g .steps ≤ 64 = clear-counts g (clear-graph g (a .t .marking) (sym (c .before .before .before .before .before .before .before .before .before .sound .ensures) ∙ c .before .before .before .before .before .before .before .enum-told .given .1)) .steps-most in
-    let i : a .t .rank .0 ≤ g .steps = rank-most (g .steps) (a .t .rank .0) (sym (c .before .before .before .before .before .ranked .ensures) ∙ not-false _ (c .before .before .before .before .if1 .left)) in
+    let most : g .steps ≤ 64 =
+    clear-counts g (clear-graph g (a .t .marking)
+    (sym (c .before .before .before .before .before .before .before .before .before .sound .ensures)
+    ∙ c .before .before .before .before .before .before .before .enum-told .given .1)) .steps-most in
+    let i : a .t .rank .0 ≤ g .steps =
+    rank-most (g .steps) (a .t .rank .0)
+    (sym (c .before .before .before .before .before .ranked .ensures) ∙ not-false _ (c .before .before .before .before .if1 .left)) in
     omega arith
 
 returns-3 : tie.Need-returns-3
@@ -67,19 +75,28 @@ unfolding entered
 returns-3 c =
     let a = c .before .before .before .before .before .before .before .before .before .before .args in
     let g : Graph = graphOf (a .g .now) in
-    let clear : first (startLines g (a .t .marking)) ≡ Verdict.Clear = sym (c .before .before .before .before .before .before .before .before .before .sound .ensures) ∙ c .before .before .before .before .before .before .before .enum-told .given .1 in
-    let rank : isRank (g .steps) (a .t .rank .0) ≡ true = sym (c .before .before .before .before .before .ranked .ensures) ∙ not-false _ (c .before .before .before .before .if1 .left) in
-    sym (step-entered g (a .t) (a .e) clear rank ∙ ap (λ (o : Move). entered o (a .t) (a .e .step .0)) (sym (c .before .before .before .enter .ensures) ∙ c .before .o .given .1))
+    let clear : first (startLines g (a .t .marking)) ≡ Verdict.Clear =
+    sym (c .before .before .before .before .before .before .before .before .before .sound .ensures)
+    ∙ c .before .before .before .before .before .before .before .enum-told .given .1 in
+    let rank : isRank (g .steps) (a .t .rank .0) ≡ true = sym (c .before .before .before .before .before .ranked .ensures)
+    ∙ not-false _ (c .before .before .before .before .if1 .left) in
+    sym (step-entered g (a .t) (a .e) clear rank
+    ∙ ap (λ (o : Move). entered o (a .t) (a .e .step .0)) (sym (c .before .before .before .enter .ensures) ∙ c .before .o .given .1))
 
 returns-4 : tie.Need-returns-4
 unfolding entered
 returns-4 c =
     let a = c .before .before .before .before .before .before .before .before .before .before .before .args in
     let g : Graph = graphOf (a .g .now) in
-    let clear : first (startLines g (a .t .marking)) ≡ Verdict.Clear = sym (c .before .before .before .before .before .before .before .before .before .before .sound .ensures) ∙ c .before .before .before .before .before .before .before .before .enum-told .given .1 in
-    let rank : isRank (g .steps) (a .t .rank .0) ≡ true = sym (c .before .before .before .before .before .before .ranked .ensures) ∙ not-false _ (c .before .before .before .before .before .if1 .left) in
+    let clear : first (startLines g (a .t .marking)) ≡ Verdict.Clear =
+    sym (c .before .before .before .before .before .before .before .before .before .before .sound .ensures)
+    ∙ c .before .before .before .before .before .before .before .before .enum-told .given .1 in
+    let rank : isRank (g .steps) (a .t .rank .0) ≡ true = sym (c .before .before .before .before .before .before .ranked .ensures)
+    ∙ not-false _ (c .before .before .before .before .before .if1 .left) in
     ap Tracked.At (c .follow .ensures)
-    ∙ sym (step-entered g (a .t) (a .e) clear rank ∙ ap (λ (o : Move). entered o (a .t) (a .e .step .0)) (sym (c .before .before .before .before .enter .ensures) ∙ c .before .before .o2 .given .1))
+    ∙ sym (step-entered g (a .t) (a .e) clear rank
+    ∙ ap (λ (o : Move). entered o (a .t) (a .e .step .0))
+    (sym (c .before .before .before .before .enter .ensures) ∙ c .before .before .o2 .given .1))
 
 pub advance-spec : {M : Type 1} → statement M
 advance-spec =

@@ -32,7 +32,9 @@ returns-2 : tie.Need-returns-2
 returns-2 c =
     let a = c .before .before .before .before .before .before .args in
     let g : Graph = graphOf (a .g .now) in
-    sym (idle-unranked g (a .t) (sym (c .before .before .before .before .before .sound .ensures) ∙ c .before .before .before .enum-told .given .1) (sym (c .before .ranked .ensures) ∙ not-true _ (c .if1 .taken)))
+    sym (idle-unranked g (a .t)
+    (sym (c .before .before .before .before .before .sound .ensures) ∙ c .before .before .before .enum-told .given .1)
+    (sym (c .before .ranked .ensures) ∙ not-true _ (c .if1 .taken)))
 
 rest-requires : tie.Need-rest-requires
 rest-requires c κs = search needs
@@ -42,7 +44,9 @@ returns-3 c =
     let a = c .before .before .before .before .before .before .before .args in
     let g : Graph = graphOf (a .g .now) in
     ap Tracked.At (c .rest .ensures)
-    ∙ sym (idle-clear g (a .t) (sym (c .before .before .before .before .before .before .sound .ensures) ∙ c .before .before .before .before .enum-told .given .1) (sym (c .before .before .ranked .ensures) ∙ not-false _ (c .before .if1 .left)))
+    ∙ sym (idle-clear g (a .t)
+    (sym (c .before .before .before .before .before .before .sound .ensures) ∙ c .before .before .before .before .enum-told .given .1)
+    (sym (c .before .before .ranked .ensures) ∙ not-false _ (c .before .if1 .left)))
 
 pub idle-spec : {M : Type 1} → statement M
 idle-spec =

@@ -27,7 +27,8 @@ begin-requires c κs = search needs
 returns-2 : tie.Need-returns-2
 returns-2 c =
     let a = c .before .before .before .before .args in
-    ap Tracked.At (c .begin .ensures) ∙ sym (start-clear (graphOf (a .g .now)) (a .m) (sym (c .before .before .before .sound .ensures) ∙ c .before .enum-told .given .1))
+    ap Tracked.At (c .begin .ensures)
+    ∙ sym (start-clear (graphOf (a .g .now)) (a .m) (sym (c .before .before .before .sound .ensures) ∙ c .before .enum-told .given .1))
 
 pub start-spec : {M : Type 1} → statement M
 start-spec =

@@ -9,7 +9,8 @@ has-requires : tie.Need-has-requires
 has-requires c κs = search needs
 
 returns : tie.Need-returns
-returns c = c .has .ensures ∙ has-meet (c .before .before .args .w .held) (c .before .before .args .w .allows) (c .before .before .args .role)
+returns c = c .has .ensures
+    ∙ has-meet (c .before .before .args .w .held) (c .before .before .args .w .allows) (c .before .before .args .role)
 
 pub admits-spec : {M : Type 1} → statement M
 admits-spec = tie.close (tie.spec has-requires returns)

@@ -55,7 +55,9 @@ returns-4 : tie.Need-returns-4
 returns-4 c =
     let a = c .before .before .before .before .before .before .args in
     let g : Graph = graphOf (a .g .now) in
-    let serves : (personHolds (rowAt g (a .e)) (a .e) && stepHas (rowAt g (a .e)) (a .e)) ≡ false = ap (λ (w : Row). has (w .held) (a .e .role) && has (w .allows) (a .e .role)) (sym (c .before .before .row-at .ensures)) ∙ sym (c .before .admits .ensures) ∙ not-true _ (c .if4 .taken) in
+    let serves : (personHolds (rowAt g (a .e)) (a .e) && stepHas (rowAt g (a .e)) (a .e)) ≡ false =
+    ap (λ (w : Row). has (w .held) (a .e .role) && has (w .allows) (a .e .role)) (sym (c .before .before .row-at .ensures))
+    ∙ sym (c .before .admits .ensures) ∙ not-true _ (c .if4 .taken) in
     sym (record-serves g (a .e) false (c .before .before .before .before .before .before .pre) serves)
 
 step-record-requires : tie.Need-step-record-requires
@@ -65,8 +67,11 @@ returns-5 : tie.Need-returns-5
 returns-5 c =
     let a = c .before .before .before .before .before .before .before .args in
     let g : Graph = graphOf (a .g .now) in
-    let serves : (personHolds (rowAt g (a .e)) (a .e) && stepHas (rowAt g (a .e)) (a .e)) ≡ true = ap (λ (w : Row). has (w .held) (a .e .role) && has (w .allows) (a .e .role)) (sym (c .before .before .before .row-at .ensures)) ∙ sym (c .before .before .admits .ensures) ∙ not-false _ (c .before .if4 .left) in
-    c .step-record .ensures ∙ ap (λ (w : Row). stepRecord w (a .e .step .0)) (c .before .before .before .row-at .ensures) ∙ sym (record-serves g (a .e) true (c .before .before .before .before .before .before .before .pre) serves)
+    let serves : (personHolds (rowAt g (a .e)) (a .e) && stepHas (rowAt g (a .e)) (a .e)) ≡ true =
+    ap (λ (w : Row). has (w .held) (a .e .role) && has (w .allows) (a .e .role)) (sym (c .before .before .before .row-at .ensures))
+    ∙ sym (c .before .before .admits .ensures) ∙ not-false _ (c .before .if4 .left) in
+    c .step-record .ensures ∙ ap (λ (w : Row). stepRecord w (a .e .step .0)) (c .before .before .before .row-at .ensures)
+    ∙ sym (record-serves g (a .e) true (c .before .before .before .before .before .before .before .pre) serves)
 
 pub entry-record-spec : {M : Type 1} → statement M
 entry-record-spec =

@@ -42,7 +42,9 @@ returns c =
     let j = a .j .now in
     let sound : Sound g = clear-sound g (c .before .before .before .before .before .before .pre .0) in
     let room : 3 * (l .k) + 3 ≤ length j = omega arith in
-    let on : entryRecord g (entryAt j (l .k)) .never ≡ true = ap (λ (q : Record). q .never) (sym (c .before .entry-record .ensures ∙ ap (entryRecord g) (c .before .before .entry-at .ensures))) ∙ c .if1 .taken in
+    let on : entryRecord g (entryAt j (l .k)) .never ≡ true =
+    ap (λ (q : Record). q .never) (sym (c .before .entry-record .ensures ∙ ap (entryRecord g) (c .before .before .entry-at .ensures)))
+    ∙ c .if1 .taken in
     sym (fold-barred g j (l .k) (l .r) sound (l .inv .4) room on)
 
 composed-requires : tie.Need-composed-requires Inv-loop μ-loop
@@ -53,8 +55,10 @@ cleared-requires c κs =
     let a = c .before .before .before .before .before .before .before .args in
     let g : Graph = graphOf (a .g .now) in
     let l = c .before .before .before .before .before .loop in
-    let next : c .composed .result ≡ compose (l .r) (entryRecord g (c .before .before .before .entry-at .result)) = c .composed .ensures ∙ ap (compose (l .r)) (c .before .before .entry-record .ensures) in
-    ap (λ (q : Record). q .dueclear) next ∙ compose-clears g (l .r) (c .before .before .before .entry-at .result) (l .inv .3) ∙ ap (λ (q : Record). q .done) (sym next)
+    let next : c .composed .result ≡ compose (l .r) (entryRecord g (c .before .before .before .entry-at .result)) = c .composed .ensures
+    ∙ ap (compose (l .r)) (c .before .before .entry-record .ensures) in
+    ap (λ (q : Record). q .dueclear) next ∙ compose-clears g (l .r) (c .before .before .before .entry-at .result) (l .inv .3)
+    ∙ ap (λ (q : Record). q .done) (sym next)
 
 returns-2 : tie.Need-returns-2 Inv-loop μ-loop
 returns-2 c =
@@ -64,7 +68,12 @@ returns-2 c =
     let j = a .j .now in
     let sound : Sound g = clear-sound g (c .before .before .before .before .before .before .before .before .before .pre .0) in
     let room : 3 * (l .k) + 3 ≤ length j = omega arith in
-    let on : compose (l .r) (entryRecord g (entryAt j (l .k))) .never ≡ true = ap (λ (q : Record). q .never) (sym (c .before .cleared .ensures ∙ c .before .before .composed .ensures ∙ ap (compose (l .r)) (c .before .before .before .before .entry-record .ensures ∙ ap (entryRecord g) (c .before .before .before .before .before .entry-at .ensures)))) ∙ c .if2 .taken in
+    let on : compose (l .r) (entryRecord g (entryAt j (l .k))) .never ≡ true =
+    ap (λ (q : Record). q .never)
+    (sym (c .before .cleared .ensures ∙ c .before .before .composed .ensures
+    ∙ ap (compose (l .r))
+    (c .before .before .before .before .entry-record .ensures
+    ∙ ap (entryRecord g) (c .before .before .before .before .before .entry-at .ensures)))) ∙ c .if2 .taken in
     sym (fold-stuck g j (l .k) (l .r) sound (l .inv .4) room on)
 
 add-k : tie.Need-add-k Inv-loop μ-loop
@@ -81,9 +90,20 @@ loop-again c =
     let j = a .j .now in
     let sound : Sound g = clear-sound g (c .before .before .before .before .before .before .before .before .before .pre .0) in
     let room : 3 * (l .k) + 3 ≤ length j = omega arith in
-    let next : c .before .cleared .result ≡ compose (l .r) (entryRecord g (entryAt j (l .k))) = c .before .cleared .ensures ∙ c .before .before .composed .ensures ∙ ap (compose (l .r)) (c .before .before .before .before .entry-record .ensures ∙ ap (entryRecord g) (c .before .before .before .before .before .entry-at .ensures)) in
-    let clears : c .before .cleared .result .dueclear ≡ c .before .cleared .result .done = ap (λ (q : Record). q .dueclear) next ∙ compose-clears g (l .r) (entryAt j (l .k)) (l .inv .3) ∙ ap (λ (q : Record). q .done) (sym next) in
-    (search needs, search needs, search needs, clears, l .inv .4 ∙ compound-more g (l .r) j (l .k) room ∙ ap (λ (q : Record). compound g q (entries (drop (3 * (l .k + 1)) j))) (sym next))
+    let next : c .before .cleared .result ≡ compose (l .r) (entryRecord g (entryAt j (l .k))) = c .before .cleared .ensures
+    ∙ c .before .before .composed .ensures
+    ∙ ap (compose (l .r))
+    (c .before .before .before .before .entry-record .ensures
+    ∙ ap (entryRecord g) (c .before .before .before .before .before .entry-at .ensures)) in
+    let clears : c .before .cleared .result .dueclear ≡ c .before .cleared .result .done = ap (λ (q : Record). q .dueclear) next
+    ∙ compose-clears g (l .r) (entryAt j (l .k)) (l .inv .3) ∙ ap (λ (q : Record). q .done) (sym next) in (
+      search needs,
+      search needs,
+      search needs,
+      clears,
+      l .inv .4 ∙ compound-more g (l .r) j (l .k) room
+          ∙ ap (λ (q : Record). compound g q (entries (drop (3 * (l .k + 1)) j))) (sym next),
+    )
 
 tidied-requires : tie.Need-tidied-requires Inv-loop μ-loop
 tidied-requires c κs = search needs

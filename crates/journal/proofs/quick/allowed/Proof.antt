@@ -47,7 +47,9 @@ returns-3 c =
     let a = c .before .before .before .before .before .before .args in
     let g : Graph = graphOf (a .g .now) in
     let e = a .e in
-    let out : has (meet (rolesHeld g (e .person)) (rolesOf g (e .step .0))) (e .role) ≡ false = ap (λ (w : Row). has (meet (w .held) (w .allows)) (e .role)) (sym (c .before .before .before .row-at .ensures)) ∙ sym (c .before .has .ensures) ∙ not-true _ (c .if3 .taken) in
+    let out : has (meet (rolesHeld g (e .person)) (rolesOf g (e .step .0))) (e .role) ≡ false =
+    ap (λ (w : Row). has (meet (w .held) (w .allows)) (e .role)) (sym (c .before .before .before .row-at .ensures))
+    ∙ sym (c .before .has .ensures) ∙ not-true _ (c .if3 .taken) in
     sym (without-role g (a .m) e out)
 
 cast-i : tie.Need-cast-i
@@ -64,8 +66,12 @@ returns-4 c =
     let a = c .before .before .before .before .before .before .before .before .before .args in
     let g : Graph = graphOf (a .g .now) in
     let e = a .e in
-    let here : row (a .singles .now) (e .step .0) ≡ single (e .step .0) = c .before .before .before .before .before .before .before .before .before .pre .1 (e .step .0) (c .before .before .before .before .before .before .before .if2 .left) in
-    let out : isIncluded (a .m) e ≡ false = not-true _ (sym (single-asked (a .m .included) (e .step .0)) ∙ eq-eqb _ 0 (ap (meet (a .m .included)) (sym here) ∙ c .if4 .taken)) in
+    let here : row (a .singles .now) (e .step .0) ≡ single (e .step .0) =
+    c .before .before .before .before .before .before .before .before .before .pre .1 (e .step .0)
+    (c .before .before .before .before .before .before .before .if2 .left) in
+    let out : isIncluded (a .m) e ≡ false =
+    not-true _ (sym (single-asked (a .m .included) (e .step .0))
+    ∙ eq-eqb _ 0 (ap (meet (a .m .included)) (sym here) ∙ c .if4 .taken)) in
     sym (not-included g (a .m) e out)
 
 waits-requires : tie.Need-waits-requires
@@ -76,10 +82,21 @@ returns-5 c =
     let a = c .before .before .before .before .before .before .before .before .before .before .args in
     let g : Graph = graphOf (a .g .now) in
     let e = a .e in
-    let both : has (meet (rolesHeld g (e .person)) (rolesOf g (e .step .0))) (e .role) ≡ true = ap (λ (w : Row). has (meet (w .held) (w .allows)) (e .role)) (sym (c .before .before .before .before .before .before .before .row-at .ensures)) ∙ sym (c .before .before .before .before .before .has .ensures) ∙ not-false _ (c .before .before .before .before .if3 .left) in
-    let here : row (a .singles .now) (e .step .0) ≡ single (e .step .0) = c .before .before .before .before .before .before .before .before .before .before .pre .1 (e .step .0) (c .before .before .before .before .before .before .before .before .if2 .left) in
-    let included : isIncluded (a .m) e ≡ true = not-false _ (sym (single-asked (a .m .included) (e .step .0)) ∙ ne-eqb _ 0 (λ q. c .before .if4 .left (ap (meet (a .m .included)) here ∙ q))) in
-    ap (λ (x : ℕ). eqb x 0) (c .waits .ensures ∙ ap (λ (w : Row). waitsFor (w .conditions) (a .m)) (c .before .before .before .before .before .before .before .row-at .ensures)) ∙ sym (role-left g (a .m) e (c .before .before .before .before .before .before .before .before .before .before .pre .0) both included)
+    let both : has (meet (rolesHeld g (e .person)) (rolesOf g (e .step .0))) (e .role) ≡ true =
+    ap (λ (w : Row). has (meet (w .held) (w .allows)) (e .role))
+    (sym (c .before .before .before .before .before .before .before .row-at .ensures))
+    ∙ sym (c .before .before .before .before .before .has .ensures) ∙ not-false _ (c .before .before .before .before .if3 .left) in
+    let here : row (a .singles .now) (e .step .0) ≡ single (e .step .0) =
+    c .before .before .before .before .before .before .before .before .before .before .pre .1 (e .step .0)
+    (c .before .before .before .before .before .before .before .before .if2 .left) in
+    let included : isIncluded (a .m) e ≡ true =
+    not-false _ (sym (single-asked (a .m .included) (e .step .0))
+    ∙ ne-eqb _ 0 (λ q. c .before .if4 .left (ap (meet (a .m .included)) here ∙ q))) in
+    ap (λ (x : ℕ). eqb x 0)
+    (c .waits .ensures ∙ ap (λ (w : Row). waitsFor (w .conditions) (a .m))
+    (c .before .before .before .before .before .before .before .row-at .ensures))
+    ∙ sym (role-left g (a .m) e
+    (c .before .before .before .before .before .before .before .before .before .before .pre .0) both included)
 
 pub allowed-spec : {M : Type 1} → statement M
 allowed-spec =

@@ -20,13 +20,15 @@ returns : tie.Need-returns
 unfolding goOn
 returns c =
     let a = c .before .before .before .before .args in
-    ap (λ (o : Move). goOn (a .index) (a .m) o (λ next. Ran.Ended next (a .index))) (sym (c .before .next .given .1) ∙ c .before .before .before .enter .ensures)
+    ap (λ (o : Move). goOn (a .index) (a .m) o (λ next. Ran.Ended next (a .index)))
+    (sym (c .before .next .given .1) ∙ c .before .before .before .enter .ensures)
 
 returns-2 : tie.Need-returns-2
 unfolding goOn
 returns-2 c =
     let a = c .before .before .before .before .args in
-    ap (λ (o : Move). goOn (a .index) (a .m) o (λ next. Ran.Ended next (a .index))) (sym (c .before .r .given .1) ∙ c .before .before .before .enter .ensures)
+    ap (λ (o : Move). goOn (a .index) (a .m) o (λ next. Ran.Ended next (a .index)))
+    (sym (c .before .r .given .1) ∙ c .before .before .before .enter .ensures)
 
 pub refused-spec : {M : Type 1} → statement M
 refused-spec = tie.close (tie.spec enter-requires enum-known-next enum-known-r returns returns-2)

@@ -55,17 +55,23 @@ returns c =
     let g : Graph = graphOf (a .g .now) in
     let j = a .j .now in
     let room : 3 * (l .k) + 3 ≤ length j = omega arith in
-    let out : isAllowed g (l .at) (entryAt j (l .k)) ≡ false = ap (isAllowed g (l .at)) (sym (c .before .before .before .before .entry-at .ensures)) ∙ sym (c .before .before .allowed .ensures) ∙ not-true _ (c .before .if1 .taken) in
+    let out : isAllowed g (l .at) (entryAt j (l .k)) ≡ false =
+    ap (isAllowed g (l .at)) (sym (c .before .before .before .before .entry-at .ensures)) ∙ sym (c .before .before .allowed .ensures)
+    ∙ not-true _ (c .before .if1 .taken) in
     c .refused .ensures
-    ∙ ap (λ (e : Entry). goOn (l .k) (l .at) (entryMove g (l .at) e) (λ next. Ran.Ended next (l .k))) (c .before .before .before .before .entry-at .ensures)
+    ∙ ap (λ (e : Entry). goOn (l .k) (l .at) (entryMove g (l .at) e) (λ next. Ran.Ended next (l .k)))
+    (c .before .before .before .before .entry-at .ensures)
     ∙ sym (l .inv .3 ∙ run-stopped g (l .at) j (l .k) room out)
 
 taken-requires : tie.Need-taken-requires Inv-loop μ-loop
 taken-requires c κs =
     let a = c .before .before .before .before .before .before .before .args in
     let g : Graph = graphOf (a .g .now) in
-    let b : Counted (g .steps) (g .people) (g .roles) = clear-counts g (c .before .before .before .before .before .before .before .pre .0) in
-    let n : Named g (c .before .before .before .entry-at .result) = allowed-named g (c .before .before .before .before .before .loop .at) (c .before .before .before .entry-at .result) (sym (c .before .allowed .ensures) ∙ not-false _ (c .if1 .left)) in
+    let b : Counted (g .steps) (g .people) (g .roles) =
+    clear-counts g (c .before .before .before .before .before .before .before .pre .0) in
+    let n : Named g (c .before .before .before .entry-at .result) =
+    allowed-named g (c .before .before .before .before .before .loop .at) (c .before .before .before .entry-at .result)
+    (sym (c .before .allowed .ensures) ∙ not-false _ (c .if1 .left)) in
     (omega arith, omega arith)
 
 add-k : tie.Need-add-k Inv-loop μ-loop
@@ -82,11 +88,13 @@ loop-again c =
     let j = a .j .now in
     let room : 3 * (l .k) + 3 ≤ length j = omega arith in
     let ok : isAllowed g (l .at) _ ≡ true = sym (c .before .before .allowed .ensures) ∙ not-false _ (c .before .if1 .left) in
-    let told : entryMove g (l .at) (entryAt j (l .k)) ≡ Move.Moved _ = ap (entryMove g (l .at)) (sym (c .before .before .before .before .entry-at .ensures)) ∙ allowed-moved g (l .at) _ ok in (
+    let told : entryMove g (l .at) (entryAt j (l .k)) ≡ Move.Moved _ =
+    ap (entryMove g (l .at)) (sym (c .before .before .before .before .entry-at .ensures)) ∙ allowed-moved g (l .at) _ ok in (
       search needs,
       search needs,
       search needs,
-      l .inv .3 ∙ run-moved g (l .at) _ j (l .k) room told ∙ ap (λ (n : Marking). runOn g n (l .k + 1) (entries (drop (3 * (l .k + 1)) j))) (sym (c .taken .ensures)),
+      l .inv .3 ∙ run-moved g (l .at) _ j (l .k) room told
+          ∙ ap (λ (n : Marking). runOn g n (l .k + 1) (entries (drop (3 * (l .k + 1)) j))) (sym (c .taken .ensures)),
     )
 
 cast-number : tie.Need-cast-number Inv-loop μ-loop

@@ -28,7 +28,8 @@ returns c =
     let g : Graph = graphOf (a .g .now) in
     let j = entries (a .stem .now) in
     let l = entries (a .lap .now) in
-    sym (upon-run-stopped g (a .m) j Pass.Stem (λ end. firstLap g end l) _ _ _ (sym (c .before .before .before .run-entries .ensures) ∙ c .before .ran .given .1))
+    sym (upon-run-stopped g (a .m) j Pass.Stem (λ end. firstLap g end l) _ _ _
+    (sym (c .before .before .before .run-entries .ensures) ∙ c .before .ran .given .1))
 
 returns-2 : tie.Need-returns-2
 unfolding decision
@@ -38,7 +39,8 @@ returns-2 c =
     let j = entries (a .stem .now) in
     let l = entries (a .lap .now) in
     let next : c .first-lap .result ≡ firstLap g (c .before .before .ran2 .given .0 .0) l = c .first-lap .ensures in
-    next ∙ sym (upon-run-ended g (a .m) j Pass.Stem (λ end. firstLap g end l) _ _ (sym (c .before .before .before .before .run-entries .ensures) ∙ c .before .before .ran2 .given .1))
+    next ∙ sym (upon-run-ended g (a .m) j Pass.Stem (λ end. firstLap g end l) _ _
+    (sym (c .before .before .before .before .run-entries .ensures) ∙ c .before .before .ran2 .given .1))
 
 pub decide-spec : {M : Type 1} → statement M
 decide-spec =

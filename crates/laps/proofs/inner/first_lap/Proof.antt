@@ -27,7 +27,8 @@ returns c =
     let a = c .before .before .before .before .before .args in
     let g : Graph = graphOf (a .g .now) in
     let j = entries (a .lap .now) in
-    sym (upon-run-stopped g (a .m) j Pass.First (λ end. secondLap g end j) _ _ _ (sym (c .before .before .before .run-entries .ensures) ∙ c .before .ran .given .1))
+    sym (upon-run-stopped g (a .m) j Pass.First (λ end. secondLap g end j) _ _ _
+    (sym (c .before .before .before .run-entries .ensures) ∙ c .before .ran .given .1))
 
 returns-2 : tie.Need-returns-2
 unfolding firstLap
@@ -36,7 +37,8 @@ returns-2 c =
     let g : Graph = graphOf (a .g .now) in
     let j = entries (a .lap .now) in
     let next : c .second-lap .result ≡ secondLap g (c .before .before .ran2 .given .0 .0) j = c .second-lap .ensures in
-    next ∙ sym (upon-run-ended g (a .m) j Pass.First (λ end. secondLap g end j) _ _ (sym (c .before .before .before .before .run-entries .ensures) ∙ c .before .before .ran2 .given .1))
+    next ∙ sym (upon-run-ended g (a .m) j Pass.First (λ end. secondLap g end j) _ _
+    (sym (c .before .before .before .before .run-entries .ensures) ∙ c .before .before .ran2 .given .1))
 
 pub first-lap-spec : {M : Type 1} → statement M
 first-lap-spec =

@@ -56,25 +56,34 @@ returns c =
     let g : Graph = graphOf (a .g .now) in
     let j = a .j .now in
     let room : 3 * (l .k) + 3 ≤ length j = omega arith in
-    let out : isAllowed g (l .at) (entryAt j (l .k)) ≡ false = ap (isAllowed g (l .at)) (sym (c .before .before .before .before .entry-at .ensures)) ∙ sym (c .before .before .allowed .ensures) ∙ not-true _ (c .before .if1 .taken) in
+    let out : isAllowed g (l .at) (entryAt j (l .k)) ≡ false =
+    ap (isAllowed g (l .at)) (sym (c .before .before .before .before .entry-at .ensures)) ∙ sym (c .before .before .allowed .ensures)
+    ∙ not-true _ (c .before .if1 .taken) in
     c .stopped .ensures
-    ∙ ap (λ (e : Entry). goOn (l .k) (entryMove g (l .at) e) (λ next. Leg.Ended next 0)) (c .before .before .before .before .entry-at .ensures)
+    ∙ ap (λ (e : Entry). goOn (l .k) (entryMove g (l .at) e) (λ next. Leg.Ended next 0))
+    (c .before .before .before .before .entry-at .ensures)
     ∙ sym (l .inv .3 ∙ leg-stopped g (l .at) (l .left) j (l .k) room out)
 
 taken-requires : tie.Need-taken-requires Inv-loop μ-loop
 taken-requires c κs =
     let a = c .before .before .before .before .before .before .before .args in
     let g : Graph = graphOf (a .g .now) in
-    let b : Counted (g .steps) (g .people) (g .roles) = clear-counts g (c .before .before .before .before .before .before .before .pre .0) in
-    let n : Named g (c .before .before .before .entry-at .result) = allowed-named g (c .before .before .before .before .before .loop .at) (c .before .before .before .entry-at .result) (sym (c .before .allowed .ensures) ∙ not-false _ (c .if1 .left)) in
+    let b : Counted (g .steps) (g .people) (g .roles) =
+    clear-counts g (c .before .before .before .before .before .before .before .pre .0) in
+    let n : Named g (c .before .before .before .entry-at .result) =
+    allowed-named g (c .before .before .before .before .before .loop .at) (c .before .before .before .entry-at .result)
+    (sym (c .before .allowed .ensures) ∙ not-false _ (c .if1 .left)) in
     (omega arith, omega arith)
 
 remain-requires : tie.Need-remain-requires Inv-loop μ-loop
 remain-requires c κs =
     let a = c .before .before .before .before .before .before .before .before .args in
     let g : Graph = graphOf (a .g .now) in
-    let b : Counted (g .steps) (g .people) (g .roles) = clear-counts g (c .before .before .before .before .before .before .before .before .pre .0) in
-    let n : Named g (c .before .before .before .before .entry-at .result) = allowed-named g (c .before .before .before .before .before .before .loop .at) (c .before .before .before .before .entry-at .result) (sym (c .before .before .allowed .ensures) ∙ not-false _ (c .before .if1 .left)) in
+    let b : Counted (g .steps) (g .people) (g .roles) =
+    clear-counts g (c .before .before .before .before .before .before .before .before .pre .0) in
+    let n : Named g (c .before .before .before .before .entry-at .result) =
+    allowed-named g (c .before .before .before .before .before .before .loop .at) (c .before .before .before .before .entry-at .result)
+    (sym (c .before .before .allowed .ensures) ∙ not-false _ (c .before .if1 .left)) in
     omega arith
 
 add-k : tie.Need-add-k Inv-loop μ-loop
@@ -90,9 +99,13 @@ loop-again c =
     let g : Graph = graphOf (a .g .now) in
     let j = a .j .now in
     let room : 3 * (l .k) + 3 ≤ length j = omega arith in
-    let ok : isAllowed g (l .at) _ ≡ true = sym (c .before .before .before .allowed .ensures) ∙ not-false _ (c .before .before .if1 .left) in
-    let told : entryMove g (l .at) (entryAt j (l .k)) ≡ Move.Moved (c .before .taken .result) = ap (entryMove g (l .at)) (sym (c .before .before .before .before .before .entry-at .ensures)) ∙ allowed-moved g (l .at) _ ok ∙ ap Move.Moved (sym (c .before .taken .ensures)) in
-    let kept : c .remain .result ≡ still (l .left) (l .at) (entryAt j (l .k) .step .0) = c .remain .ensures ∙ ap (λ (e : Entry). still (l .left) (l .at) (e .step .0)) (c .before .before .before .before .before .entry-at .ensures) in
+    let ok : isAllowed g (l .at) _ ≡ true = sym (c .before .before .before .allowed .ensures)
+    ∙ not-false _ (c .before .before .if1 .left) in
+    let told : entryMove g (l .at) (entryAt j (l .k)) ≡ Move.Moved (c .before .taken .result) =
+    ap (entryMove g (l .at)) (sym (c .before .before .before .before .before .entry-at .ensures)) ∙ allowed-moved g (l .at) _ ok
+    ∙ ap Move.Moved (sym (c .before .taken .ensures)) in
+    let kept : c .remain .result ≡ still (l .left) (l .at) (entryAt j (l .k) .step .0) = c .remain .ensures
+    ∙ ap (λ (e : Entry). still (l .left) (l .at) (e .step .0)) (c .before .before .before .before .before .entry-at .ensures) in
     (search needs, search needs, search needs, l .inv .3 ∙ leg-moved g (l .at) (l .left) j (l .k) _ _ room told kept)
 
 returns-2 : tie.Need-returns-2 Inv-loop μ-loop

@@ -27,7 +27,8 @@ returns c =
     let a = c .before .before .before .before .before .args in
     let g : Graph = graphOf (a .g .now) in
     let j = entries (a .lap .now) in
-    sym (upon-stopped (legOf g (a .m) j) Pass.Second (λ end x. judged x) _ _ (sym (c .before .before .before .go-through .ensures) ∙ c .before .leg .given .1))
+    sym (upon-stopped (legOf g (a .m) j) Pass.Second (λ end x. judged x) _ _
+    (sym (c .before .before .before .go-through .ensures) ∙ c .before .leg .given .1))
 
 returns-2 : tie.Need-returns-2
 unfolding secondLap
@@ -35,7 +36,9 @@ returns-2 c =
     let a = c .before .before .before .before .before .before .args in
     let g : Graph = graphOf (a .g .now) in
     let j = entries (a .lap .now) in
-    c .judge .ensures ∙ sym (upon-ended (legOf g (a .m) j) Pass.Second (λ end x. judged x) _ _ (sym (c .before .before .before .before .go-through .ensures) ∙ c .before .before .leg2 .given .1))
+    c .judge .ensures ∙ sym
+    (upon-ended (legOf g (a .m) j) Pass.Second (λ end x. judged x) _ _
+    (sym (c .before .before .before .before .go-through .ensures) ∙ c .before .before .leg2 .given .1))
 
 pub second-lap-spec : {M : Type 1} → statement M
 second-lap-spec =

@@ -20,13 +20,15 @@ returns : tie.Need-returns
 unfolding goOn
 returns c =
     let a = c .before .before .before .before .args in
-    ap (λ (o : Move). goOn (a .index) o (λ next. Leg.Ended next 0)) (sym (c .before .next .given .1) ∙ c .before .before .before .enter .ensures)
+    ap (λ (o : Move). goOn (a .index) o (λ next. Leg.Ended next 0))
+    (sym (c .before .next .given .1) ∙ c .before .before .before .enter .ensures)
 
 returns-2 : tie.Need-returns-2
 unfolding goOn
 returns-2 c =
     let a = c .before .before .before .before .args in
-    ap (λ (o : Move). goOn (a .index) o (λ next. Leg.Ended next 0)) (sym (c .before .r .given .1) ∙ c .before .before .before .enter .ensures)
+    ap (λ (o : Move). goOn (a .index) o (λ next. Leg.Ended next 0))
+    (sym (c .before .r .given .1) ∙ c .before .before .before .enter .ensures)
 
 pub stopped-spec : {M : Type 1} → statement M
 stopped-spec = tie.close (tie.spec enter-requires enum-known-next enum-known-r returns returns-2)

@@ -36,9 +36,11 @@ unfolding moveOf first numberOf
 returns-3 c =
     let on-step = c .before .before in
     let held = on-step .before .before in
-    simp (ap not (sym (held .before .has .ensures)) ∙ held .if1 .left,
-    ap not (sym (on-step .before .has2 .ensures)) ∙ on-step .if2 .left,
-    ap not (sym (c .before .has3 .ensures)) ∙ c .if3 .taken)
+    simp (
+      ap not (sym (held .before .has .ensures)) ∙ held .if1 .left,
+      ap not (sym (on-step .before .has2 .ensures)) ∙ on-step .if2 .left,
+      ap not (sym (c .before .has3 .ensures)) ∙ c .if3 .taken,
+    )
 
 waits-requires : tie.Need-waits-requires
 waits-requires c κs = search needs
@@ -53,12 +55,14 @@ returns-4 c =
     let included = waited .before in
     let on-step = included .before .before in
     let held = on-step .before .before in
-    simp (ap not (sym (held .before .has .ensures)) ∙ held .if1 .left,
-    ap not (sym (on-step .before .has2 .ensures)) ∙ on-step .if2 .left,
-    ap not (sym (included .before .has3 .ensures)) ∙ included .if3 .left,
-    ne-eqb _ 0 (λ q. c .before .if4 .taken (waited .waits .ensures ∙ q)),
-    c .lowest .ensures,
-    waited .waits .ensures)
+    simp (
+      ap not (sym (held .before .has .ensures)) ∙ held .if1 .left,
+      ap not (sym (on-step .before .has2 .ensures)) ∙ on-step .if2 .left,
+      ap not (sym (included .before .has3 .ensures)) ∙ included .if3 .left,
+      ne-eqb _ 0 (λ q. c .before .if4 .taken (waited .waits .ensures ∙ q)),
+      c .lowest .ensures,
+      waited .waits .ensures,
+    )
 
 returns-5 : tie.Need-returns-5
 unfolding moveOf first numberOf
@@ -67,11 +71,13 @@ returns-5 c =
     let included = waited .before in
     let on-step = included .before .before in
     let held = on-step .before .before in
-    simp (ap not (sym (held .before .has .ensures)) ∙ held .if1 .left,
-    ap not (sym (on-step .before .has2 .ensures)) ∙ on-step .if2 .left,
-    ap not (sym (included .before .has3 .ensures)) ∙ included .if3 .left,
-    eq-eqb _ 0 (sym (waited .waits .ensures) ∙ c .if4 .left),
-    held .before .before .moved .ensures)
+    simp (
+      ap not (sym (held .before .has .ensures)) ∙ held .if1 .left,
+      ap not (sym (on-step .before .has2 .ensures)) ∙ on-step .if2 .left,
+      ap not (sym (included .before .has3 .ensures)) ∙ included .if3 .left,
+      eq-eqb _ 0 (sym (waited .waits .ensures) ∙ c .if4 .left),
+      held .before .before .moved .ensures,
+    )
 
 pub take-row-spec : {M : Type 1} → statement M
 take-row-spec =

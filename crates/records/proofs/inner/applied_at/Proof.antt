@@ -22,7 +22,9 @@ applied-requires c κs = search needs
 returns-2 : tie.Need-returns-2
 returns-2 c =
     let s = c .before .before .before in
-    c .applied .ensures ∙ sym (applies-on (s .args .n) (s .args .r) (s .args .m) (s .pre .0) (sym (c .before .before .fits2 .ensures) ∙ not-false _ (c .before .if1 .left)) (s .pre .1))
+    c .applied .ensures ∙ sym
+    (applies-on (s .args .n) (s .args .r) (s .args .m) (s .pre .0)
+    (sym (c .before .before .fits2 .ensures) ∙ not-false _ (c .before .if1 .left)) (s .pre .1))
 
 pub applied-at-spec : {M : Type 1} → statement M
 applied-at-spec = tie.close (tie.spec fits-requires returns applied-requires returns-2)

@@ -7,7 +7,8 @@ full-requires : tie.Need-full-requires
 full-requires c κs = c .before .before .before .before .before .before .before .before .before .before .before .before .before .pre
 
 returns : tie.Need-returns
-returns c = simp (c .before .full .ensures) (well-formed-sum (c .before .before .before .before .before .before .before .before .before .before .before .before .before .before .before .args .n) (c .before .before .before .before .before .before .before .before .before .before .before .before .before .before .before .args .r))
+returns c = simp (c .before .full .ensures)
+    (well-formed-sum (c .before .before .before .before .before .before .before .before .before .before .before .before .before .before .before .args .n) (c .before .before .before .before .before .before .before .before .before .before .before .before .before .before .before .args .r))
 
 pub well-formed-spec : {M : Type 1} → statement M
 well-formed-spec = tie.close (tie.spec full-requires returns)

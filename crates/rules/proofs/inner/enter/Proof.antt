@@ -49,7 +49,12 @@ returns-3 : tie.Need-returns-3
 returns-3 c =
     let a = c .before .before .before .before .before .before .args in
     let g : Graph = graphOf (a .g .now) in
-    let unknown : known g (a .e) ≡ false = simp (lt-ltb _ _ (c .before .before .before .before .if1 .left), lt-ltb _ _ (c .before .before .if2 .left), le-ltb _ _ (c .if3 .taken)) in
+    let unknown : known g (a .e) ≡ false =
+    simp (
+      lt-ltb _ _ (c .before .before .before .before .if1 .left),
+      lt-ltb _ _ (c .before .before .if2 .left),
+      le-ltb _ _ (c .if3 .taken),
+    ) in
     sym (entry-unknown g (a .m) (a .e) unknown)
 
 row-at-requires : tie.Need-row-at-requires
@@ -68,8 +73,14 @@ returns-4 : tie.Need-returns-4
 returns-4 c =
     let a = c .before .before .before .before .before .before .before .before .args in
     let g : Graph = graphOf (a .g .now) in
-    let is : known g (a .e) ≡ true = simp (lt-ltb _ _ (c .before .before .before .before .before .before .if1 .left), lt-ltb _ _ (c .before .before .before .before .if2 .left), lt-ltb _ _ (c .before .before .if3 .left)) in
-    c .take-row .ensures ∙ ap (λ (w : Row). moveOf (first (rowLines w (a .m) (a .e))) (a .m) (after w (a .m) (a .e .step .0))) (c .before .row-at .ensures) ∙ sym (entry-known g (a .m) (a .e) is)
+    let is : known g (a .e) ≡ true =
+    simp (
+      lt-ltb _ _ (c .before .before .before .before .before .before .if1 .left),
+      lt-ltb _ _ (c .before .before .before .before .if2 .left),
+      lt-ltb _ _ (c .before .before .if3 .left),
+    ) in
+    c .take-row .ensures ∙ ap (λ (w : Row). moveOf (first (rowLines w (a .m) (a .e))) (a .m) (after w (a .m) (a .e .step .0)))
+    (c .before .row-at .ensures) ∙ sym (entry-known g (a .m) (a .e) is)
 
 pub enter-spec : {M : Type 1} → statement M
 enter-spec =

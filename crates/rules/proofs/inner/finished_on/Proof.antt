@@ -21,13 +21,15 @@ returns c =
 returns-2 : tie.Need-returns-2
 returns-2 c =
     let a = c .before .before .before .before .args in
-    let within : markingFits (a .steps) (a .m) ≡ true = sym (c .before .before .before .fits2 .ensures) ∙ not-false _ (c .before .before .if1 .left) in
+    let within : markingFits (a .steps) (a .m) ≡ true = sym (c .before .before .before .fits2 .ensures)
+    ∙ not-false _ (c .before .before .if1 .left) in
     sym (ending-inside (a .steps) (a .m) within ∙ ap (λ (b : Bool). cond b Ending.Finished Ending.Open) (eq-eqb _ 0 (c .if2 .taken)))
 
 returns-3 : tie.Need-returns-3
 returns-3 c =
     let a = c .before .before .before .before .args in
-    let within : markingFits (a .steps) (a .m) ≡ true = sym (c .before .before .before .fits2 .ensures) ∙ not-false _ (c .before .before .if1 .left) in
+    let within : markingFits (a .steps) (a .m) ≡ true = sym (c .before .before .before .fits2 .ensures)
+    ∙ not-false _ (c .before .before .if1 .left) in
     sym (ending-inside (a .steps) (a .m) within ∙ ap (λ (b : Bool). cond b Ending.Finished Ending.Open) (ne-eqb _ 0 (c .if2 .left)))
 
 pub finished-on-spec : {M : Type 1} → statement M

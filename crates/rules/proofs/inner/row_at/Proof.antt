@@ -23,7 +23,14 @@ word-requires-6 c κs = search needs
 
 returns : tie.Need-returns
 returns c =
-    simp (c .word6 .ensures, c .before .word5 .ensures, c .before .before .word4 .ensures, c .before .before .before .word3 .ensures, c .before .before .before .before .word2 .ensures, c .before .before .before .before .before .word .ensures)
+    simp (
+      c .word6 .ensures,
+      c .before .word5 .ensures,
+      c .before .before .word4 .ensures,
+      c .before .before .before .word3 .ensures,
+      c .before .before .before .before .word2 .ensures,
+      c .before .before .before .before .before .word .ensures,
+    )
 
 pub row-at-spec : {M : Type 1} → statement M
 row-at-spec =

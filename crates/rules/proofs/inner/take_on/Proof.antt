@@ -26,7 +26,8 @@ enter-requires c κs = search needs
 returns-2 : tie.Need-returns-2
 returns-2 c =
     let a = c .before .before .before .before .args in
-    c .enter .ensures ∙ sym (on-inside (graphOf (a .g .now)) (a .m) (a .e) (sym (c .before .before .fits2 .ensures) ∙ not-false _ (c .before .if1 .left)))
+    c .enter .ensures ∙ sym
+    (on-inside (graphOf (a .g .now)) (a .m) (a .e) (sym (c .before .before .fits2 .ensures) ∙ not-false _ (c .before .if1 .left)))
 
 pub take-on-spec : {M : Type 1} → statement M
 take-on-spec =

@@ -33,7 +33,16 @@ eight-requires-8 c κs = search needs
 
 returns : tie.Need-returns
 unfolding recordAt
-returns c = simp (c .before .before .before .before .before .before .before .eight .ensures, c .before .before .before .before .before .before .eight2 .ensures, c .before .before .before .before .before .eight3 .ensures, c .before .before .before .before .eight4 .ensures, c .before .before .before .eight5 .ensures, c .before .before .eight6 .ensures, c .before .eight7 .ensures, c .eight8 .ensures)
+returns c = simp (
+  c .before .before .before .before .before .before .before .eight .ensures,
+  c .before .before .before .before .before .before .eight2 .ensures,
+  c .before .before .before .before .before .eight3 .ensures,
+  c .before .before .before .before .eight4 .ensures,
+  c .before .before .before .eight5 .ensures,
+  c .before .before .eight6 .ensures,
+  c .before .eight7 .ensures,
+  c .eight8 .ensures,
+)
 
 pub record-at-spec : {M : Type 1} → statement M
 record-at-spec =

@@ -17,13 +17,18 @@ put-requires c κs = search needs
 
 spell-four-requires : tie.Need-spell-four-requires
 spell-four-requires c κs =
-    let first : c .before .before .before .put .result + 64 ≤ length (c .before .before .before .put .last .1 .1 .0) = room-behind 1 _ 64 0 _ _ _ (c .before .before .before .put .ensures) (c .before .before .before .before .before .before .before .pre) in
+    let first : c .before .before .before .put .result + 64 ≤ length (c .before .before .before .put .last .1 .1 .0) =
+    room-behind 1 _ 64 0 _ _ _ (c .before .before .before .put .ensures)
+    (c .before .before .before .before .before .before .before .pre) in
     let z : c .before .before .before .put .result + 32 ≤ length (c .before .before .before .put .last .1 .1 .0) = omega arith in
     z
 
 spell-four-requires-2 : tie.Need-spell-four-requires-2
 spell-four-requires-2 c κs =
-    let first : c .before .before .before .before .before .before .before .put .result + 64 ≤ length (c .before .before .before .before .before .before .before .put .last .1 .1 .0) = room-behind 1 _ 64 0 _ _ _ (c .before .before .before .before .before .before .before .put .ensures) (c .before .before .before .before .before .before .before .before .before .before .before .pre) in
+    let first : c .before .before .before .before .before .before .before .put .result + 64 ≤ length
+    (c .before .before .before .before .before .before .before .put .last .1 .1 .0) =
+    room-behind 1 _ 64 0 _ _ _ (c .before .before .before .before .before .before .before .put .ensures)
+    (c .before .before .before .before .before .before .before .before .before .before .before .pre) in
     room-behind-four _ _ _ _ 32 _ _ _ _ (c .before .before .before .spell-four .ensures) first
 
 same-length : tie.Need-same-length
@@ -32,7 +37,12 @@ same-length c = search needs
 returns : tie.Need-returns
 returns c =
     spelt-record (c .before .before .before .before .before .before .before .before .before .before .before .before .before .before .args .r) _ _ _ _ _ _ _ (c .before .before .before .before .before .before .before .before .before .before .before .before .before .before .pre)
-    (subst (λ (x : ℕ). Spliced (bytes 1 x) 0 (c .before .before .before .before .before .before .before .before .before .before .before .before .before .before .args .room .now) (c .before .before .before .before .before .before .before .before .before .before .put .last .1 .1 .0) (c .before .before .before .before .before .before .before .before .before .before .put .result)) (c .before .before .before .before .before .before .before .before .before .before .before .before .one-if .ensures) (c .before .before .before .before .before .before .before .before .before .before .put .ensures))
+    (subst (λ (x : ℕ). Spliced (bytes 1 x) 0
+    (c .before .before .before .before .before .before .before .before .before .before .before .before .before .before .args .room .now)
+    (c .before .before .before .before .before .before .before .before .before .before .put .last .1 .1 .0)
+    (c .before .before .before .before .before .before .before .before .before .before .put .result))
+    (c .before .before .before .before .before .before .before .before .before .before .before .before .one-if .ensures)
+    (c .before .before .before .before .before .before .before .before .before .before .put .ensures))
     (c .before .before .before .before .before .before .spell-four .ensures)
     (c .before .before .spell-four2 .ensures)
 

@@ -24,24 +24,31 @@ lowest-requires c κs = search needs
 meets-requires : tie.Need-meets-requires
 meets-requires c κs =
     let small : c .before .before .pool .result < 2 ^ 64 = omega arith in
-    let low : lowest 64 (c .before .before .pool .result) < 64 = lowest-below 64 (c .before .before .pool .result) small (c .before .if1 .left) in
+    let low : lowest 64 (c .before .before .pool .result) < 64 =
+    lowest-below 64 (c .before .before .pool .result) small (c .before .if1 .left) in
     omega (arith, c .lowest .ensures)
 
 rank-of-requires : tie.Need-rank-of-requires
 rank-of-requires c κs =
     let small : c .before .before .before .before .pool .result < 2 ^ 64 = omega arith in
-    let low : lowest 64 (c .before .before .before .before .pool .result) < 64 = lowest-below 64 (c .before .before .before .before .pool .result) small (c .before .before .before .if1 .left) in
+    let low : lowest 64 (c .before .before .before .before .pool .result) < 64 =
+    lowest-below 64 (c .before .before .before .before .pool .result) small (c .before .before .before .if1 .left) in
     omega (arith, c .before .before .lowest .ensures)
 
 returns-2 : tie.Need-returns-2
 returns-2 c =
     let a = c .before .before .before .before .before .before .before .before .before .before .args in
-    after-met (a .t) (a .next) (a .e .0) (c .before .before .before .before .before .pool .result) (c .before .before .before .lowest .result) (c .rank-of .result) (c .before .before .before .before .before .pool .ensures) (c .before .before .before .before .if1 .left) (c .before .before .before .lowest .ensures) (sym (c .before .before .meets .ensures) ∙ c .before .if2 .taken) (c .rank-of .ensures)
+    after-met (a .t) (a .next) (a .e .0) (c .before .before .before .before .before .pool .result)
+    (c .before .before .before .lowest .result) (c .rank-of .result) (c .before .before .before .before .before .pool .ensures)
+    (c .before .before .before .before .if1 .left) (c .before .before .before .lowest .ensures)
+    (sym (c .before .before .meets .ensures) ∙ c .before .if2 .taken) (c .rank-of .ensures)
 
 returns-3 : tie.Need-returns-3
 returns-3 c =
     let a = c .before .before .before .before .before .before .before .before .before .args in
-    after-unmet (a .t) (a .next) (a .e .0) (c .before .before .before .before .pool .result) (c .before .before .lowest .result) (c .before .before .before .before .pool .ensures) (c .before .before .lowest .ensures) (sym (c .before .meets .ensures) ∙ c .if2 .left)
+    after-unmet (a .t) (a .next) (a .e .0) (c .before .before .before .before .pool .result) (c .before .before .lowest .result)
+    (c .before .before .before .before .pool .ensures) (c .before .before .lowest .ensures)
+    (sym (c .before .meets .ensures) ∙ c .if2 .left)
 
 pub follow-spec : {M : Type 1} → statement M
 follow-spec =

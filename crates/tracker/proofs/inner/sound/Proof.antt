@@ -31,20 +31,23 @@ element-copy-out-fits c = search needs
 
 fits-requires : tie.Need-fits-requires
 fits-requires c κs =
-    clear-counts (graphOf (c .before .before .before .before .args .g .now)) (sym (c .before .before .before .check .ensures) ∙ c .before .enum-told .given .1) .steps-most
+    clear-counts (graphOf (c .before .before .before .before .args .g .now))
+    (sym (c .before .before .before .check .ensures) ∙ c .before .enum-told .given .1) .steps-most
 
 returns-2 : tie.Need-returns-2
 returns-2 c =
     let a = c .before .before .before .before .before .before .args in
     let g : Graph = graphOf (a .g .now) in
-    let clear : graphVerdict g ≡ Verdict.Clear = sym (c .before .before .before .before .before .check .ensures) ∙ c .before .before .before .enum-told .given .1 in
+    let clear : graphVerdict g ≡ Verdict.Clear = sym (c .before .before .before .before .before .check .ensures)
+    ∙ c .before .before .before .enum-told .given .1 in
     sym (sound-outside g (a .m) clear (sym (c .before .fits2 .ensures) ∙ not-true _ (c .if1 .taken)))
 
 returns-3 : tie.Need-returns-3
 returns-3 c =
     let a = c .before .before .before .before .before .before .args in
     let g : Graph = graphOf (a .g .now) in
-    let clear : graphVerdict g ≡ Verdict.Clear = sym (c .before .before .before .before .before .check .ensures) ∙ c .before .before .before .enum-told .given .1 in
+    let clear : graphVerdict g ≡ Verdict.Clear = sym (c .before .before .before .before .before .check .ensures)
+    ∙ c .before .before .before .enum-told .given .1 in
     sym (sound-inside g (a .m) clear (sym (c .before .fits2 .ensures) ∙ not-false _ (c .if1 .left)))
 
 pub sound-spec : {M : Type 1} → statement M
