@@ -1,4 +1,6 @@
--- `next` meets its contract: a walk of its MIR, by hand. The borrow of the walk is opened; the journal and the place are read from it, and `step_at` is called on them; the place that it gives is stored, and the borrow is closed at the walk with that place. All that the proof knows of `step_at` is that it meets its contract.
+-- `next` meets its contract: a walk of its MIR, by hand. The borrow of the walk is opened; the journal and the place are read from it, and
+-- `step_at` is called on them; the place that it gives is stored, and the borrow is closed at the walk with that place. All that the proof
+-- knows of `step_at` is that it meets its contract.
 -- What the walk owns can be had twice: one copy goes to the callee, the other is kept, and the facts of the place are made anew (`again`).
 -- Assumes nothing.
 use mathlib.Core.Path.{_≡_, refl, ap}

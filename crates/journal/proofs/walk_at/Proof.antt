@@ -1,4 +1,6 @@
--- `walk_at` meets its contract: a walk of its MIR, by hand. The walk that `new` makes is held in a local and given the place; the local is lent to `next` for a lifetime of the call within the journal's, and taken back at the walk that `next` left. All that the proof knows of `new` and of `next` is that each meets its contract.
+-- `walk_at` meets its contract: a walk of its MIR, by hand. The walk that `new` makes is held in a local and given the place; the local is
+-- lent to `next` for a lifetime of the call within the journal's, and taken back at the walk that `next` left. All that the proof knows of
+-- `new` and of `next` is that each meets its contract.
 -- The journal's token is cut in two: one half goes to `next` beside the token of the call's lifetime, which is made of the other.
 -- Assumes nothing.
 use mathlib.Core.Path.{_≡_, refl, ap, subst, _∙_}

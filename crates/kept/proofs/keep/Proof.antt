@@ -1,4 +1,6 @@
--- `keep` meets its contract: a walk of its MIR, by hand. The borrow of the marking is opened, the marking is read, and `keeping` is called on it and on the graph's tables; the marking that it gives is stored, and the borrow is closed at it. All that the proof knows of `keeping` is that it meets its contract.
+-- `keep` meets its contract: a walk of its MIR, by hand. The borrow of the marking is opened, the marking is read, and `keeping` is called
+-- on it and on the graph's tables; the marking that it gives is stored, and the borrow is closed at it. All that the proof knows of
+-- `keeping` is that it meets its contract.
 -- What the tables' references own can be had twice: one copy goes to the callee, and the other is kept for the exit. A marking owns only facts, which are made anew.
 -- Assumes nothing.
 use mathlib.Core.Path.{_≡_, refl, ap}

@@ -1,4 +1,5 @@
--- `kept_after` meets its contract: a walk of its MIR, by hand. The marking is laid down in a local, which is lent to `keep` for a lifetime of the call and taken back at the marking that `keep` left. All that the proof knows of `keep` is that it meets its contract.
+-- `kept_after` meets its contract: a walk of its MIR, by hand. The marking is laid down in a local, which is lent to `keep` for a lifetime
+-- of the call and taken back at the marking that `keep` left. All that the proof knows of `keep` is that it meets its contract.
 -- What the tables' references own can be had twice: one copy goes to the callee, and the other is kept for the exit. A marking owns only facts, which are made anew.
 -- Assumes nothing.
 use mathlib.Core.Path.{_≡_, refl, ap, subst}

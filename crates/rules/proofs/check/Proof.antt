@@ -114,7 +114,8 @@ returns-2 c =
     (c .before .before .before .before .before .before .before .before .before .before .before .before .before .before .before .before .args .g .now) in
     let fit : setsFit g ≡ (c .before .before .roles-fit .result && c .before .before .before .before .before .arrows-checked .result .fit) =
     sym (ap₂ _&&_ (c .before .before .roles-fit .ensures) (c .before .before .before .before .before .arrows-checked .ensures .0)) in
-    simp (ap not (sym (c .before .before .before .before .before .before .before .before .before .before .before .before .counts-fit .ensures)) ∙ c .before .before .before .before .before .before .before .before .before .before .before .if1 .left, ap not fit ∙ c .if2 .taken)
+    let counted = c .before .before .before .before .before .before .before .before .before .before .before in
+    simp (ap not (sym (counted .before .counts-fit .ensures)) ∙ counted .if1 .left, ap not fit ∙ c .if2 .taken)
 
 returns-3 : tie.Need-returns-3
 unfolding first setsFit
@@ -128,7 +129,8 @@ returns-3 c =
     let apart : kindsApart (g .steps) (g .includes)
     (g .excludes) ≡ c .before .before .before .before .before .before .before .arrows-checked .result .apart =
     sym (c .before .before .before .before .before .before .before .arrows-checked .ensures .1) in
-    simp (ap not (sym (c .before .before .before .before .before .before .before .before .before .before .before .before .before .before .counts-fit .ensures)) ∙ c .before .before .before .before .before .before .before .before .before .before .before .before .before .if1 .left, ap not fit ∙ c .before .before .if2 .left, ap not apart ∙ c .if3 .taken)
+    let counted = c .before .before .before .before .before .before .before .before .before .before .before .before .before in
+    simp (ap not (sym (counted .before .counts-fit .ensures)) ∙ counted .if1 .left, ap not fit ∙ c .before .before .if2 .left, ap not apart ∙ c .if3 .taken)
 
 returns-4 : tie.Need-returns-4
 unfolding first setsFit
@@ -142,7 +144,8 @@ returns-4 c =
     let apart : kindsApart (g .steps) (g .includes)
     (g .excludes) ≡ c .before .before .before .before .before .before .before .arrows-checked .result .apart =
     sym (c .before .before .before .before .before .before .before .arrows-checked .ensures .1) in
-    simp (ap not (sym (c .before .before .before .before .before .before .before .before .before .before .before .before .before .before .counts-fit .ensures)) ∙ c .before .before .before .before .before .before .before .before .before .before .before .before .before .if1 .left, ap not fit ∙ c .before .before .if2 .left, ap not apart ∙ c .if3 .left)
+    let counted = c .before .before .before .before .before .before .before .before .before .before .before .before .before in
+    simp (ap not (sym (counted .before .counts-fit .ensures)) ∙ counted .if1 .left, ap not fit ∙ c .before .before .if2 .left, ap not apart ∙ c .if3 .left)
 
 pub check-spec : {M : Type 1} → statement M
 check-spec =

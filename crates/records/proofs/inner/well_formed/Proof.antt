@@ -7,8 +7,9 @@ full-requires : tie.Need-full-requires
 full-requires c κs = c .before .before .before .before .before .before .before .before .before .before .before .before .before .pre
 
 returns : tie.Need-returns
-returns c = simp (c .before .full .ensures)
-    (well-formed-sum (c .before .before .before .before .before .before .before .before .before .before .before .before .before .before .before .args .n) (c .before .before .before .before .before .before .before .before .before .before .before .before .before .before .before .args .r))
+returns c =
+    let a = c .before .before .before .before .before .before .before .before .before .before .before .before .before .before .before .args in
+    simp (c .before .full .ensures) (well-formed-sum (a .n) (a .r))
 
 pub well-formed-spec : {M : Type 1} → statement M
 well-formed-spec = tie.close (tie.spec full-requires returns)

@@ -36,7 +36,8 @@ same-length c = search needs
 
 returns : tie.Need-returns
 returns c =
-    spelt-record (c .before .before .before .before .before .before .before .before .before .before .before .before .before .before .args .r) _ _ _ _ _ _ _ (c .before .before .before .before .before .before .before .before .before .before .before .before .before .before .pre)
+    let start = c .before .before .before .before .before .before .before .before .before .before .before .before .before .before in
+    spelt-record (start .args .r) _ _ _ _ _ _ _ (start .pre)
     (subst (λ (x : ℕ). Spliced (bytes 1 x) 0
     (c .before .before .before .before .before .before .before .before .before .before .before .before .before .before .args .room .now)
     (c .before .before .before .before .before .before .before .before .before .before .put .last .1 .1 .0)
