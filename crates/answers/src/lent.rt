@@ -1,6 +1,6 @@
 // Markings and records in lent memory, which is written only where the number is 0.
 ghost use mathlib.Core.Path.{_≡_};
-ghost use Rattle.moves.specs.First.{number};
+ghost use Rattle.moves.specs.First.{numberOfVerdict};
 ghost use Rattle.moves.specs.Move.{numberOfMove, stepOfMove};
 ghost use Rattle.records.specs.Answers.{numberOfRecorded};
 ghost use Rattle.sheet.specs.Sheet.{ifClear};
@@ -64,7 +64,7 @@ pub fn keep(k: kept::Kept, words: &mut [u64; 3]) -> Kept
 
 // The first marking of a sheet, where nothing is against it.
 pub fn first(v: Verdict, m: Marking, words: &mut [u64; 3]) -> u64
-    ensures { λ r. ⌜ r ≡ number v ⌝ }
+    ensures { λ r. ⌜ r ≡ numberOfVerdict v ⌝ }
     ensures { λ r. ⌜ now (words .exit) ≡ ifClear v (markingWords m) (now (words .entry)) ⌝ }
 {
     match v {

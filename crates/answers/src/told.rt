@@ -1,6 +1,6 @@
 // Number and values of each case of an answer, in words.
 ghost use mathlib.Core.Path.{_≡_};
-ghost use Rattle.moves.specs.First.{number, numberOf, stepOf};
+ghost use Rattle.moves.specs.First.{numberOfVerdict, numberOf, stepOf};
 ghost use Rattle.moves.specs.Move.{numberOfMove, stepOfMove, markingOfMove};
 ghost use Rattle.rules.specs.Answers.{numberOfEnding};
 ghost use Rattle.journal.specs.Run.{numberOfRun, stepOfRun, indexOfRun, markingOfRun};
@@ -44,7 +44,7 @@ pub fn said(r: Refusal) -> Words
 }
 
 pub fn verdict(v: Verdict) -> u64
-    ensures { λ r. ⌜ r ≡ number v ⌝ }
+    ensures { λ r. ⌜ r ≡ numberOfVerdict v ⌝ }
 {
     match v {
         Verdict::Clear => 0,
@@ -164,7 +164,7 @@ pub fn walked(o: journal::Walked) -> Walked
 
 // A record has 65 bytes.
 pub fn spelt(v: Verdict) -> Written
-    ensures { λ r. ⌜ r .number ≡ number v ⌝ }
+    ensures { λ r. ⌜ r .number ≡ numberOfVerdict v ⌝ }
     ensures { λ r. ⌜ r .length ≡ lengthOfSpelling v ⌝ }
 {
     match v {

@@ -15,7 +15,7 @@ use Rattle.moves.specs.declared.Marking.{Marking}
 use Rattle.moves.specs.declared.Entry.{Entry}
 use Rattle.moves.specs.declared.Verdict.{Verdict}
 use Rattle.moves.specs.declared.Refusal.{Refusal}
-use Rattle.moves.specs.First.{first, number, numberOf, stepOf}
+use Rattle.moves.specs.First.{first, numberOfVerdict, numberOf, stepOf}
 use Rattle.moves.specs.Move.{isFinished}
 use Rattle.rules.specs.Answers.{known, entryLines}
 use Rattle.moves.specs.Given.{ascends, clear-head, clear-front, clear-back}
@@ -138,8 +138,8 @@ unfolding ascends numberOf
 step-ascends g t e = refl
 
 -- and the number of the answer is the table's
-tracked-number : (v : Verdict) (before next : Track) → numberOfTracked (trackedOf v before next) ≡ number v
-unfolding numberOfTracked trackedOf number
+tracked-number : (v : Verdict) (before next : Track) → numberOfTracked (trackedOf v before next) ≡ numberOfVerdict v
+unfolding numberOfTracked trackedOf numberOfVerdict
 tracked-number Verdict.Clear before next = refl
 tracked-number (Verdict.Refused r) before next = either (leb 11 (numberOf r))
   where
@@ -147,15 +147,15 @@ tracked-number (Verdict.Refused r) before next = either (leb 11 (numberOf r))
     either true = refl
     either false = refl
 
-pub start-number : (g : Graph) (m : Marking) → numberOfTracked (theStart g m) ≡ number (first (startLines g m))
+pub start-number : (g : Graph) (m : Marking) → numberOfTracked (theStart g m) ≡ numberOfVerdict (first (startLines g m))
 unfolding theStart
 start-number g m = tracked-number (first (startLines g m)) (begin m) (begin m)
 
-pub idle-number : (g : Graph) (t : Track) → numberOfTracked (theIdle g t) ≡ number (first (idleLines g t))
+pub idle-number : (g : Graph) (t : Track) → numberOfTracked (theIdle g t) ≡ numberOfVerdict (first (idleLines g t))
 unfolding theIdle
 idle-number g t = tracked-number (first (idleLines g t)) t (rest t)
 
-pub step-number : (g : Graph) (t : Track) (e : Entry) → numberOfTracked (theStep g t e) ≡ number (first (stepLines g t e))
+pub step-number : (g : Graph) (t : Track) (e : Entry) → numberOfTracked (theStep g t e) ≡ numberOfVerdict (first (stepLines g t e))
 unfolding theStep
 step-number g t e = tracked-number (first (stepLines g t e)) t _
 

@@ -2,7 +2,7 @@
 // with their length; an answer is a struct of words. Lent memory is written only where the number is 0.
 ghost use mathlib.Core.Path.{_≡_};
 ghost use lib.ListN.{length};
-ghost use Rattle.moves.specs.First.{number};
+ghost use Rattle.moves.specs.First.{numberOfVerdict};
 ghost use Rattle.moves.specs.Move.{numberOfMove, stepOfMove, markingOfMove};
 ghost use Rattle.rules.specs.Graph.{graphOf, graphVerdict};
 ghost use Rattle.rules.specs.Answers.{theMove, theEnding, numberOfEnding};
@@ -37,7 +37,7 @@ use rules::Job;
 // Refusals 2, 4, 6.
 #[no_mangle]
 pub extern "C" fn ulz_check(g: &Job) -> u64
-    ensures { λ r. ⌜ r ≡ number (graphVerdict (graphOf (now (g .entry)))) ⌝ }
+    ensures { λ r. ⌜ r ≡ numberOfVerdict (graphVerdict (graphOf (now (g .entry)))) ⌝ }
 {
     let v = rules::check(g);
     told::verdict(v)
@@ -174,7 +174,7 @@ pub extern "C" fn ulz_record_write<'a, 'b>(
     words: &'a [u64; 9],
     room: &'b mut [u8],
 ) -> Written
-    ensures { λ r. ⌜ r .number ≡ number (spellVerdict n (now (words .entry)) (now (room .entry))) ⌝ }
+    ensures { λ r. ⌜ r .number ≡ numberOfVerdict (spellVerdict n (now (words .entry)) (now (room .entry))) ⌝ }
     ensures { λ r. ⌜ r .length ≡ lengthOfSpelling (spellVerdict n (now (words .entry)) (now (room .entry))) ⌝ }
     ensures { λ r. ⌜ now (room .exit) ≡ roomOf (spellVerdict n (now (words .entry)) (now (room .entry))) (recordOf (now (words .entry))) (now (room .entry)) ⌝ }
 {
@@ -206,7 +206,7 @@ pub extern "C" fn ulz_restore<'a, 'b, 'c>(
 // Refusals 1 to 6.
 #[no_mangle]
 pub extern "C" fn ulz_read<'a, 'b, 'c>(sheet: &'a [u8], g: &'b mut Job, m: &'c mut [u64; 3]) -> u64
-    ensures { λ r. ⌜ r ≡ number (readVerdict (now (sheet .entry))) ⌝ }
+    ensures { λ r. ⌜ r ≡ numberOfVerdict (readVerdict (now (sheet .entry))) ⌝ }
     ensures { λ r. ⌜ now (g .exit) ≡ ifClear (readVerdict (now (sheet .entry))) (blockRead (now (sheet .entry))) (now (g .entry)) ⌝ }
     ensures { λ r. ⌜ now (m .exit) ≡ ifClear (readVerdict (now (sheet .entry))) (markingWords (firstOf (now (sheet .entry)))) (now (m .entry)) ⌝ }
 {

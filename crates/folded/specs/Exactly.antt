@@ -28,8 +28,8 @@ use Rattle.records.specs.Records.{acts, applies, gives, wellFormed}
 use Rattle.records.specs.Laws.{applies-never}
 use Rattle.records.specs.WellFormed.{well-formed}
 use Rattle.exact.specs.Unique.{unique, everything, everything-inside, applies-everything}
-use Rattle.folding.specs.Fold.{rowAt, possible, foldOf}
-use Rattle.folding.specs.Effect.{movedTo, passes}
+use Rattle.folding.specs.Fold.{rowMet, possible, foldOf}
+use Rattle.folding.specs.Effect.{movedTo, endOfAll}
 use Rattle.folding.specs.Laws.{moved-if, acts-fold, fold-well-formed}
 use Rattle.folding.specs.Answers.{theFold}
 use Rattle.folding.specs.Answered.{fold-clear}
@@ -69,7 +69,7 @@ barred g out (e ∷ rest) = (not (possible g e) || has out (e .step .0)) || barr
 abbrev ShutIn : ℕ → Marking → Type 0
 ShutIn out m = (t : ℕ) → has out t ≡ true → has (m .included) t ≡ false
 
-shut-on : (g : Graph) (out : ℕ) (m : Marking) (e : Entry) → ShutIn out m → ShutIn (shutAfter g out e) (after (rowAt g e) m (e .step .0))
+shut-on : (g : Graph) (out : ℕ) (m : Marking) (e : Entry) → ShutIn out m → ShutIn (shutAfter g out e) (after (rowMet g e) m (e .step .0))
 shut-on g out m e shut t h =
     has-minus (union (m .included) inc) exc t
     ∙ ap (λ (b : Bool). b && not (has exc t)) (has-union (m .included) inc t)
@@ -96,20 +96,20 @@ shut-on g out m e shut t h =
     go false p i q false r = absurd (false≢true (sym (ap₂ (λ (a b : Bool). (a && not (has inc t)) || b) p r) ∙ told))
 
 -- where one is barred, no marking that leaves out what is shut out lets every entry pass
-barred-none : (g : Graph) (es : List Entry) (out : ℕ) (m : Marking) → ShutIn out m → barred g out es ≡ true → passes g m es ≡ none
-unfolding barred passes bind
+barred-none : (g : Graph) (es : List Entry) (out : ℕ) (m : Marking) → ShutIn out m → barred g out es ≡ true → endOfAll g m es ≡ none
+unfolding barred endOfAll bind
 barred-none g [] out m shut h = absurd (false≢true h)
 barred-none g (e ∷ es) out m shut h =
-    ap (λ (o : Option Marking). bind o (λ next. passes g next es)) (moved-if g e m)
-    ∙ go (possible g e) refl (isIncluded m e) refl (empty (waitsFor (rowAt g e .conditions) m)) (has out (e .step .0)) refl
-    (barred-none g es (shutAfter g out e) (after (rowAt g e) m (e .step .0)) (shut-on g out m e shut))
+    ap (λ (o : Option Marking). bind o (λ next. endOfAll g next es)) (moved-if g e m)
+    ∙ go (possible g e) refl (isIncluded m e) refl (empty (waitsFor (rowMet g e .conditions) m)) (has out (e .step .0)) refl
+    (barred-none g es (shutAfter g out e) (after (rowMet g e) m (e .step .0)) (shut-on g out m e shut))
   where
     next : Marking
-    next = after (rowAt g e) m (e .step .0)
+    next = after (rowMet g e) m (e .step .0)
 
     go : (p : Bool) → possible g e ≡ p → (i : Bool) → isIncluded m e ≡ i → (w o : Bool) → has out (e .step .0) ≡ o
-        → (barred g (shutAfter g out e) es ≡ true → passes g next es ≡ none)
-        → bind (cond (possible g e) (cond (isIncluded m e && w) (some next) none) none) (λ x. passes g x es) ≡ none
+        → (barred g (shutAfter g out e) es ≡ true → endOfAll g next es ≡ none)
+        → bind (cond (possible g e) (cond (isIncluded m e && w) (some next) none) none) (λ x. endOfAll g x es) ≡ none
     go false p i q w o r rest = simp p
     go true p false q w o r rest = simp (p, q)
     go true p true q false o r rest = simp (p, q)
@@ -122,7 +122,7 @@ record Free (g : Graph) (out : ℕ) (m : Marking) : Type 0 where
   pub all-done : (t : ℕ) → t < g .steps → has (m .done) t ≡ true
   pub let-in : (t : ℕ) → t < g .steps → has out t ≡ false → has (m .included) t ≡ true
 
-free-on : (g : Graph) (out : ℕ) (m : Marking) (e : Entry) → Free g out m → Free g (shutAfter g out e) (after (rowAt g e) m (e .step .0))
+free-on : (g : Graph) (out : ℕ) (m : Marking) (e : Entry) → Free g out m → Free g (shutAfter g out e) (after (rowMet g e) m (e .step .0))
 free-on g out m e free =
     record {
       all-done = λ t l. has-union (m .done) (single (e .step .0)) t ∙ or-first (has (single (e .step .0)) t) (free .all-done t l);
@@ -156,18 +156,18 @@ free-on g out m e free =
 
 -- where none is barred, every entry passes at such a marking
 free-passes : (g : Graph) (es : List Entry) (out : ℕ) (m : Marking) → Sound g → Free g out m → barred g out es ≡ false → (x : Marking)
-    × (passes g m es ≡ some x)
-unfolding barred passes bind
+    × (endOfAll g m es ≡ some x)
+unfolding barred endOfAll bind
 free-passes g [] out m sound free h = (m, refl)
 free-passes g (e ∷ es) out m sound free h =
     go (possible g e) refl (has out (e .step .0)) refl
-    (free-passes g es (shutAfter g out e) (after (rowAt g e) m (e .step .0)) sound (free-on g out m e free))
+    (free-passes g es (shutAfter g out e) (after (rowMet g e) m (e .step .0)) sound (free-on g out m e free))
   where
     s : ℕ
     s = e .step .0
 
     next : Marking
-    next = after (rowAt g e) m s
+    next = after (rowMet g e) m s
 
     -- what is done does not keep anything waiting
     waits-not : empty (waitsFor (conditionsOf g s) m) ≡ true
@@ -189,20 +189,20 @@ free-passes g (e ∷ es) out m sound free h =
             (free .all-done t (member-below (g .steps) (conditionsOf g s) t (sound .conditions-in s) p)) ∙ done-away (has (m .included) t)
 
     go : (p : Bool) → possible g e ≡ p → (o : Bool) → has out s ≡ o
-        → (barred g (shutAfter g out e) es ≡ false → (x : Marking) × (passes g next es ≡ some x))
-        → (x : Marking) × (bind (movedTo (entryMove g m e)) (λ y. passes g y es) ≡ some x)
+        → (barred g (shutAfter g out e) es ≡ false → (x : Marking) × (endOfAll g next es ≡ some x))
+        → (x : Marking) × (bind (movedTo (entryMove g m e)) (λ y. endOfAll g y es) ≡ some x)
     go false p o q on = absurd (true≢false (sym (ap (λ (a : Bool). (not a || has out s) || barred g (shutAfter g out e) es) p) ∙ h))
     go true p true q on = absurd (true≢false (sym (ap₂ (λ (a b : Bool). (not a || b) || barred g (shutAfter g out e) es) p q) ∙ h))
     go true p false q on =
         let there : s < g .steps =
-        known-step g e (and-left (known g e) (personHolds (rowAt g e) e)
-        (and-left (known g e && personHolds (rowAt g e) e) (stepHas (rowAt g e) e) p)) in
+        known-step g e (and-left (known g e) (personHolds (rowMet g e) e)
+        (and-left (known g e && personHolds (rowMet g e) e) (stepHas (rowMet g e) e) p)) in
         let rest : barred g (shutAfter g out e) es ≡ false =
         ap₂ (λ (a b : Bool). (not a || b) || barred g (shutAfter g out e) es) (sym p) (sym q) ∙ h in
         let goes = on rest in
         let moved : movedTo (entryMove g m e) ≡ some next =
         moved-if g e m ∙ ap₂ (λ (a b : Bool). cond a (cond b (some next) none) none) p (ap₂ _&&_ (free .let-in s there q) waits-not) in
-        (goes .0, ap (λ (o : Option Marking). bind o (λ y. passes g y es)) moved ∙ goes .1)
+        (goes .0, ap (λ (o : Option Marking). bind o (λ y. endOfAll g y es)) moved ∙ goes .1)
 
 -- a fold of entries is never exactly if one of them is barred
 fold-barred : (g : Graph) (es : List Entry) → Sound g → foldOf g es .never ≡ barred g 0 es
@@ -218,7 +218,7 @@ fold-barred g es sound = go (foldOf g es .never) refl (barred g 0 es) refl
     all : Marking
     all = everything n
 
-    acted : acts r all ≡ passes g all es
+    acted : acts r all ≡ endOfAll g all es
     acted = acts-fold g es all
 
     free : Free g 0 all

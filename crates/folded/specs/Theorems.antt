@@ -36,7 +36,7 @@ use Rattle.records.specs.WellFormed.{WellFormed, well-formed, of-well-formed}
 use Rattle.records.specs.Answers.{theJoin, theApplication}
 use Rattle.records.specs.Answered.{Applying, applying, applied-of, joins, gives-inside}
 use Rattle.folding.specs.Fold.{foldOf}
-use Rattle.folding.specs.Effect.{movedTo, passes}
+use Rattle.folding.specs.Effect.{movedTo, endOfAll}
 use Rattle.folding.specs.Laws.{fold-well-formed, acts-fold, fold-append}
 use Rattle.folding.specs.Answers.{theFold, theRestoring}
 use Rattle.folding.specs.Answered.{fold-graph, fold-length, fold-clear, restore-graph, restore-length, restore-on}
@@ -49,13 +49,13 @@ endOf (Ran.Ended m k) = some m
 endOf (Ran.Stopped k r m) = none
 
 -- the entries pass exactly if the run ends, and it ends where they end
-pub passes-end : (g : Graph) (m : Marking) (k : ℕ) (es : List Entry) → passes g m es ≡ endOf (runOn g m k es)
-unfolding passes runOn goOn endOf movedTo bind
+pub passes-end : (g : Graph) (m : Marking) (k : ℕ) (es : List Entry) → endOfAll g m es ≡ endOf (runOn g m k es)
+unfolding endOfAll runOn goOn endOf movedTo bind
 passes-end g m k [] = refl
 passes-end g m k (e ∷ es) = go (entryMove g m e) (λ next. passes-end g next (k + 1) es)
   where
-    go : (o : Move) → ((next : Marking) → passes g next es ≡ endOf (runOn g next (k + 1) es))
-        → bind (movedTo o) (λ next. passes g next es) ≡ endOf (goOn k m o (λ next. runOn g next (k + 1) es))
+    go : (o : Move) → ((next : Marking) → endOfAll g next es ≡ endOf (runOn g next (k + 1) es))
+        → bind (movedTo o) (λ next. endOfAll g next es) ≡ endOf (goOn k m o (λ next. runOn g next (k + 1) es))
     go (Move.Moved next) rest = rest next
     go (Move.Refused r back) rest = refl
 

@@ -14,7 +14,7 @@ use Rattle.rules.specs.Answers.{markingLines}
 use Rattle.moves.specs.Given.{first-clear, first-refused}
 use Rattle.journal.specs.declared.Ran.{Ran}
 use Rattle.journal.specs.Journal.{entries, lengthFits}
-use Rattle.journal.specs.Run.{runFrom, runOf, lengthLines}
+use Rattle.journal.specs.Run.{runFrom, ranOf, lengthLines}
 use Rattle.journal.specs.Inner.{runOn, run-from}
 use Rattle.moves.specs.Inside.{fits-inside}
 use Rattle.records.specs.Answered.{gives-inside}
@@ -53,38 +53,38 @@ module _ (g : Graph) (r : Record) (j : List ℕ) (m : Marking) where
   tried = cond (applies r m) (runFrom g (gives r m) 0 (entries j)) (Ran.Stopped 0 NotApplied m)
 
   pub restore-graph : (q : Refusal) → graphVerdict g ≡ Verdict.Refused q → theRestoring g r j m ≡ Ran.Stopped 0 q noMarking
-  unfolding theRestoring runOf
-  restore-graph q e = ap (λ (v : Verdict). runOf v tried)
+  unfolding theRestoring ranOf
+  restore-graph q e = ap (λ (v : Verdict). ranOf v tried)
       (first-refused (graphLines g) (lengthLines j ++ markingLines g m ++ (IllFormed, not (wellFormed (g .steps) r)) ∷ []) q e)
 
   -- the lines after the graph's
   restore-lines : (l f w : Bool) → graphVerdict g ≡ Verdict.Clear → lengthFits j ≡ l → markingFits (g .steps) m ≡ f
       → wellFormed (g .steps) r ≡ w
-      → theRestoring g r j m ≡ runOf (first ((Length, not l) ∷ (Outside, not f) ∷ (IllFormed, not w) ∷ [])) tried
+      → theRestoring g r j m ≡ ranOf (first ((Length, not l) ∷ (Outside, not f) ∷ (IllFormed, not w) ∷ [])) tried
   unfolding theRestoring
   restore-lines l f w e p q s =
-      ap (λ (v : Verdict). runOf v tried)
+      ap (λ (v : Verdict). ranOf v tried)
       (first-clear (graphLines g) (lengthLines j ++ markingLines g m ++ (IllFormed, not (wellFormed (g .steps) r)) ∷ []) e)
-      ∙ (λ i. runOf (first ((Length, not (p i)) ∷ (Outside, not (q i)) ∷ (IllFormed, not (s i)) ∷ [])) tried)
+      ∙ (λ i. ranOf (first ((Length, not (p i)) ∷ (Outside, not (q i)) ∷ (IllFormed, not (s i)) ∷ [])) tried)
 
   pub restore-length : graphVerdict g ≡ Verdict.Clear → lengthFits j ≡ false → theRestoring g r j m ≡ Ran.Stopped 0 Length noMarking
-  unfolding runOf first
+  unfolding ranOf first
   restore-length e p = restore-lines false (markingFits (g .steps) m) (wellFormed (g .steps) r) e p refl refl
 
   pub restore-outside : graphVerdict g ≡ Verdict.Clear → lengthFits j ≡ true → markingFits (g .steps) m ≡ false
       → theRestoring g r j m ≡ Ran.Stopped 0 Outside noMarking
-  unfolding runOf first
+  unfolding ranOf first
   restore-outside e p q = restore-lines true false (wellFormed (g .steps) r) e p q refl
 
   pub restore-ill : graphVerdict g ≡ Verdict.Clear → lengthFits j ≡ true → markingFits (g .steps) m ≡ true → wellFormed (g .steps) r ≡ false
       → theRestoring g r j m ≡ Ran.Stopped 0 IllFormed noMarking
-  unfolding runOf first
+  unfolding ranOf first
   restore-ill e p q s = restore-lines true true false e p q s
 
   pub restore-on : (a : Bool) → graphVerdict g ≡ Verdict.Clear → lengthFits j ≡ true → markingFits (g .steps) m ≡ true
       → wellFormed (g .steps) r ≡ true → applies r m ≡ a
       → theRestoring g r j m ≡ cond a (runOn g (gives r m) 0 (entries j)) (Ran.Stopped 0 NotApplied m)
-  unfolding runOf first
+  unfolding ranOf first
   restore-on a e p q s t =
       restore-lines true true true e p q s
       ∙ ap (λ (b : Bool). cond b (runFrom g (gives r m) 0 (entries j)) (Ran.Stopped 0 NotApplied m)) t

@@ -9,7 +9,7 @@ use Rattle.moves.specs.First.{Line, first}
 use Rattle.rules.specs.Answers.{markingLines}
 use Rattle.journal.specs.declared.Ran.{Ran}
 use Rattle.journal.specs.Journal.{entries}
-use Rattle.journal.specs.Run.{runFrom, runOf, lengthLines}
+use Rattle.journal.specs.Run.{runFrom, ranOf, lengthLines}
 use Rattle.records.specs.declared.Record.{Record}
 use Rattle.records.specs.declared.Recorded.{Recorded}
 use Rattle.records.specs.Records.{applies, gives, wellFormed}
@@ -32,4 +32,4 @@ restoreLines g r j m = graphLines g ++ lengthLines j ++ markingLines g m ++ (Ill
 -- 16 gives back the marking handed in; no entry is looked at before the record has applied
 unfoldable pub theRestoring : Graph → Record → List ℕ → Marking → Ran
 theRestoring g r j m =
-    runOf (first (restoreLines g r j m)) (cond (applies r m) (runFrom g (gives r m) 0 (entries j)) (Ran.Stopped 0 NotApplied m))
+    ranOf (first (restoreLines g r j m)) (cond (applies r m) (runFrom g (gives r m) 0 (entries j)) (Ran.Stopped 0 NotApplied m))

@@ -9,17 +9,17 @@ use Rattle.moves.specs.declared.Entry.{Entry}
 use Rattle.moves.specs.Move.{after}
 use Rattle.records.specs.declared.Record.{Record}
 use Rattle.records.specs.Records.{identity, compose}
-use Rattle.folding.specs.Fold.{rowAt, stepRecord}
+use Rattle.folding.specs.Fold.{rowMet, stepRecord}
 
 -- the marking after the steps of all the entries, allowed or not
 unfoldable pub afterAll : Graph → Marking → List Entry → Marking
 afterAll g m [] = m
-afterAll g m (e ∷ rest) = afterAll g (after (rowAt g e) m (e .step .0)) rest
+afterAll g m (e ∷ rest) = afterAll g (after (rowMet g e) m (e .step .0)) rest
 
 -- and what they do together, as a record
 unfoldable pub effect : Graph → List Entry → Record
 effect g [] = identity
-effect g (e ∷ rest) = compose (stepRecord (rowAt g e) (e .step .0)) (effect g rest)
+effect g (e ∷ rest) = compose (stepRecord (rowMet g e) (e .step .0)) (effect g rest)
 
 -- ---- the entries, one by one
 
@@ -29,6 +29,6 @@ movedTo (Move.Moved next) = some next
 movedTo (Move.Refused r back) = none
 
 -- the end marking, if every entry is allowed
-unfoldable pub passes : Graph → Marking → List Entry → Option Marking
-passes g m [] = some m
-passes g m (e ∷ rest) = bind (movedTo (entryMove g m e)) (λ next. passes g next rest)
+unfoldable pub endOfAll : Graph → Marking → List Entry → Option Marking
+endOfAll g m [] = some m
+endOfAll g m (e ∷ rest) = bind (movedTo (entryMove g m e)) (λ next. endOfAll g next rest)

@@ -12,8 +12,8 @@ use Rattle.records.specs.declared.Record.{Record}
 use Rattle.records.specs.Records.{identity, impossible, tidy, join}
 
 -- what an entry meets of the graph
-abbrev pub rowAt : Graph → Entry → Row
-rowAt g e = rowOf g (e .person) (e .step .0)
+abbrev pub rowMet : Graph → Entry → Row
+rowMet g e = rowOf g (e .person) (e .step .0)
 
 -- step s needs to be included, and each of its conditions excluded or done. It becomes done and no longer due; then its responses
 -- are due, the steps it includes are included, and those it excludes are not
@@ -33,11 +33,11 @@ stepRecord w s =
 
 -- "An entry that no marking could allow: unknown number, role not held, role not on the step"
 abbrev pub possible : Graph → Entry → Bool
-possible g e = known g e && personHolds (rowAt g e) e && stepHas (rowAt g e) e
+possible g e = known g e && personHolds (rowMet g e) e && stepHas (rowMet g e) e
 
 -- what an entry needs and does
 unfoldable pub entryRecord : Graph → Entry → Record
-entryRecord g e = cond (possible g e) (stepRecord (rowAt g e) (e .step .0)) impossible
+entryRecord g e = cond (possible g e) (stepRecord (rowMet g e) (e .step .0)) impossible
 
 -- The fold of a list of entries is the join over them. "The empty journal folds to the identity."
 unfoldable pub foldOf : Graph → List Entry → Record

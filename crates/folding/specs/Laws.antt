@@ -35,8 +35,8 @@ use Rattle.records.specs.Laws.{gives-again}
 use Rattle.records.specs.WellFormed.{Bounded, WellFormed, compose-bounded, identity-well-formed, tidy-well-formed, join-well-formed}
 use Rattle.exact.specs.Unique.{unique}
 use Rattle.exact.specs.Theorems.{then-none, then-again, then-same, join-assoc, join-identity-left}
-use Rattle.folding.specs.Fold.{rowAt, stepRecord, possible, entryRecord, foldOf}
-use Rattle.folding.specs.Effect.{movedTo, passes, afterAll, effect}
+use Rattle.folding.specs.Fold.{rowMet, stepRecord, possible, entryRecord, foldOf}
+use Rattle.folding.specs.Effect.{movedTo, endOfAll, afterAll, effect}
 use Rattle.folding.specs.Possible.{possible-serves}
 
 -- ---- one entry
@@ -91,22 +91,22 @@ moved-by-lines true true true true true s m next = refl
 -- an entry moves a marking exactly if some marking could allow it, its step is included and it waits for nothing
 pub moved-if : (g : Graph) (e : Entry) (m : Marking) → movedTo (entryMove g m e)
     ≡ cond (possible g e)
-    (cond (isIncluded m e && empty (waitsFor (rowAt g e .conditions) m)) (some (after (rowAt g e) m (e .step .0))) none) none
+    (cond (isIncluded m e && empty (waitsFor (rowMet g e .conditions) m)) (some (after (rowMet g e) m (e .step .0))) none) none
 unfolding entryMove first
 moved-if g e m =
-    moved-by-lines (known g e) (personHolds (rowAt g e) e) (stepHas (rowAt g e) e) (isIncluded m e)
-    (empty (waitsFor (rowAt g e .conditions) m)) _ m
-    (after (rowAt g e) m (e .step .0))
+    moved-by-lines (known g e) (personHolds (rowMet g e) e) (stepHas (rowMet g e) e) (isIncluded m e)
+    (empty (waitsFor (rowMet g e .conditions) m)) _ m
+    (after (rowMet g e) m (e .step .0))
 
 -- an entry's record does what the entry does
 pub acts-entry : (g : Graph) (e : Entry) (m : Marking) → acts (entryRecord g e) m ≡ movedTo (entryMove g m e)
 unfolding entryRecord acts
 acts-entry g e m = go (possible g e) ∙ sym (moved-if g e m)
   where
-    go : (p : Bool) → acts (cond p (stepRecord (rowAt g e) (e .step .0)) impossible) m
-        ≡ cond p (cond (isIncluded m e && empty (waitsFor (rowAt g e .conditions) m)) (some (after (rowAt g e) m (e .step .0))) none) none
-    go true = ap₂ (λ (q : Bool) (x : Marking). cond q (some x) none) (applies-step (rowAt g e) (e .step .0) m)
-        (gives-step (rowAt g e) (e .step .0) m)
+    go : (p : Bool) → acts (cond p (stepRecord (rowMet g e) (e .step .0)) impossible) m
+        ≡ cond p (cond (isIncluded m e && empty (waitsFor (rowMet g e .conditions) m)) (some (after (rowMet g e) m (e .step .0))) none) none
+    go true = ap₂ (λ (q : Bool) (x : Marking). cond q (some x) none) (applies-step (rowMet g e) (e .step .0) m)
+        (gives-step (rowMet g e) (e .step .0) m)
     go false = acts-impossible m
 
 -- a test that fails leaves none of both
@@ -121,18 +121,18 @@ record-unknown g e k = simp k
 
 -- in a graph with nothing against it, the roles alone say whether some marking could allow an entry
 pub record-serves : (g : Graph) (e : Entry) (p : Bool) → graphVerdict g ≡ Verdict.Clear
-    → (personHolds (rowAt g e) e && stepHas (rowAt g e) e) ≡ p
-    → entryRecord g e ≡ cond p (stepRecord (rowAt g e) (e .step .0)) impossible
+    → (personHolds (rowMet g e) e && stepHas (rowMet g e) e) ≡ p
+    → entryRecord g e ≡ cond p (stepRecord (rowMet g e) (e .step .0)) impossible
 unfolding entryRecord
-record-serves g e p clear q = ap (λ (x : Bool). cond x (stepRecord (rowAt g e) (e .step .0)) impossible) (possible-serves g e clear ∙ q)
+record-serves g e p clear q = ap (λ (x : Bool). cond x (stepRecord (rowMet g e) (e .step .0)) impossible) (possible-serves g e clear ∙ q)
 
 -- an entry's record clears what is due of the steps that it does, and of no other
 pub entry-clears : (g : Graph) (e : Entry) → entryRecord g e .dueclear ≡ entryRecord g e .done
 unfolding entryRecord
 entry-clears g e = go (possible g e)
   where
-    go : (p : Bool) → cond p (stepRecord (rowAt g e) (e .step .0)) impossible .dueclear ≡ cond p
-        (stepRecord (rowAt g e) (e .step .0)) impossible .done
+    go : (p : Bool) → cond p (stepRecord (rowMet g e) (e .step .0)) impossible .dueclear ≡ cond p
+        (stepRecord (rowMet g e) (e .step .0)) impossible .done
     go true = refl
     go false = refl
 
@@ -148,11 +148,11 @@ entry-bounded g e sound = go (possible g e) refl
     s : ℕ
     s = e .step .0
 
-    go : (p : Bool) → possible g e ≡ p → Bounded (g .steps) (cond p (stepRecord (rowAt g e) s) impossible)
+    go : (p : Bool) → possible g e ≡ p → Bounded (g .steps) (cond p (stepRecord (rowMet g e) s) impossible)
     go true q =
         let is : known g e ≡ true =
-        and-left (known g e) (personHolds (rowAt g e) e)
-        (and-left (known g e && personHolds (rowAt g e) e) (stepHas (rowAt g e) e) q) in
+        and-left (known g e) (personHolds (rowMet g e) e)
+        (and-left (known g e && personHolds (rowMet g e) e) (stepHas (rowMet g e) e) q) in
         let below : s < g .steps =
         ltb-true s (g .steps)
         (and-right (ltb (e .person) (g .people)) (ltb s (g .steps))
@@ -164,7 +164,7 @@ entry-bounded g e sound = go (possible g e) refl
           done-in = single-lt (g .steps) s below;
           dueset-in = sound .responses-in s;
           dueclear-in = single-lt (g .steps) s below;
-          inset-in = minus-lt (g .steps) (rowAt g e .includes) (rowAt g e .excludes) (sound .includes-in s);
+          inset-in = minus-lt (g .steps) (rowMet g e .includes) (rowMet g e .excludes) (sound .includes-in s);
           inclear-in = sound .excludes-in s;
         }
     go false q = search pow-pos
@@ -180,8 +180,8 @@ fold-well-formed g (e ∷ es) sound =
     (tidy-well-formed (g .steps) (entryRecord g e) (entry-bounded g e sound)) (fold-well-formed g es sound)
 
 -- it applies exactly when every entry is allowed in turn, and then gives the end marking
-pub acts-fold : (g : Graph) (es : List Entry) (m : Marking) → acts (foldOf g es) m ≡ passes g m es
-unfolding foldOf passes
+pub acts-fold : (g : Graph) (es : List Entry) (m : Marking) → acts (foldOf g es) m ≡ endOfAll g m es
+unfolding foldOf endOfAll
 acts-fold g [] m = acts-identity m
 acts-fold g (e ∷ es) m =
     acts-join (tidy (entryRecord g e)) (foldOf g es) m
@@ -198,16 +198,16 @@ fold-append g (e ∷ a) b sound =
     (tidy-well-formed (g .steps) (entryRecord g e) (entry-bounded g e sound)) (fold-well-formed g a sound) (fold-well-formed g b sound))
 
 -- going through one list and then another
-pub passes-append : (g : Graph) (a b : List Entry) (m : Marking) → passes g m (a ++ b) ≡ bind (passes g m a) (λ x. passes g x b)
-unfolding passes bind
+pub passes-append : (g : Graph) (a b : List Entry) (m : Marking) → endOfAll g m (a ++ b) ≡ bind (endOfAll g m a) (λ x. endOfAll g x b)
+unfolding endOfAll bind
 passes-append g [] b m = refl
 passes-append g (e ∷ a) b m =
-    then-same (movedTo (entryMove g m e)) (λ x. passes g x (a ++ b)) (λ x. bind (passes g x a) (λ y. passes g y b)) (passes-append g a b)
-    ∙ sym (then-again (movedTo (entryMove g m e)) (λ x. passes g x a) (λ y. passes g y b))
+    then-same (movedTo (entryMove g m e)) (λ x. endOfAll g x (a ++ b)) (λ x. bind (endOfAll g x a) (λ y. endOfAll g y b)) (passes-append g a b)
+    ∙ sym (then-again (movedTo (entryMove g m e)) (λ x. endOfAll g x a) (λ y. endOfAll g y b))
 
 -- applying the fold of one list and then going through another is going through both
-pub restored : (g : Graph) (a b : List Entry) (m : Marking) → bind (acts (foldOf g a) m) (λ x. passes g x b) ≡ passes g m (a ++ b)
-restored g a b m = ap (λ (o : Option Marking). bind o (λ x. passes g x b)) (acts-fold g a m) ∙ sym (passes-append g a b m)
+pub restored : (g : Graph) (a b : List Entry) (m : Marking) → bind (acts (foldOf g a) m) (λ x. endOfAll g x b) ≡ endOfAll g m (a ++ b)
+restored g a b m = ap (λ (o : Option Marking). bind o (λ x. endOfAll g x b)) (acts-fold g a m) ∙ sym (passes-append g a b m)
 
 -- ---- composing first, and tidying once at the end
 
@@ -222,16 +222,16 @@ compound-bounded g r [] sound b = b
 compound-bounded g r (e ∷ es) sound b =
     compound-bounded g (compose r (entryRecord g e)) es sound (compose-bounded (g .steps) r (entryRecord g e) b (entry-bounded g e sound))
 
-acts-compound : (g : Graph) (r : Record) (es : List Entry) (m : Marking) → acts (compound g r es) m ≡ bind (acts r m) (λ x. passes g x es)
-unfolding compound passes
+acts-compound : (g : Graph) (r : Record) (es : List Entry) (m : Marking) → acts (compound g r es) m ≡ bind (acts r m) (λ x. endOfAll g x es)
+unfolding compound endOfAll
 acts-compound g r [] m = sym (then-none (acts r m))
 acts-compound g r (e ∷ es) m =
     acts-compound g (compose r (entryRecord g e)) es m
-    ∙ ap (λ (o : Option Marking). bind o (λ x. passes g x es)) (acts-compose r (entryRecord g e) m)
-    ∙ then-again (acts r m) (acts (entryRecord g e)) (λ x. passes g x es)
-    ∙ then-same (acts r m) (λ x. bind (acts (entryRecord g e) x) (λ y. passes g y es))
-    (λ x. bind (movedTo (entryMove g x e)) (λ y. passes g y es))
-    (λ x. ap (λ (o : Option Marking). bind o (λ y. passes g y es)) (acts-entry g e x))
+    ∙ ap (λ (o : Option Marking). bind o (λ x. endOfAll g x es)) (acts-compose r (entryRecord g e) m)
+    ∙ then-again (acts r m) (acts (entryRecord g e)) (λ x. endOfAll g x es)
+    ∙ then-same (acts r m) (λ x. bind (acts (entryRecord g e) x) (λ y. endOfAll g y es))
+    (λ x. bind (movedTo (entryMove g x e)) (λ y. endOfAll g y es))
+    (λ x. ap (λ (o : Option Marking). bind o (λ y. endOfAll g y es)) (acts-entry g e x))
 
 -- once never, always never
 pub compound-never : (g : Graph) (r : Record) (es : List Entry) → r .never ≡ true → tidy (compound g r es) ≡ impossible
@@ -276,7 +276,7 @@ tidy-compound g es sound =
     (tidy-well-formed (g .steps) (compound g identity es) (compound-bounded g identity es sound (identity-well-formed (g .steps) .bounded)))
     (fold-well-formed g es sound)
     (λ m h. acts-tidy (compound g identity es) m ∙ acts-compound g identity es m
-    ∙ ap (λ (o : Option Marking). bind o (λ x. passes g x es)) (acts-identity m) ∙ sym (acts-fold g es m))
+    ∙ ap (λ (o : Option Marking). bind o (λ x. endOfAll g x es)) (acts-identity m) ∙ sym (acts-fold g es m))
 
 -- ---- a fold, entry by entry
 
@@ -307,9 +307,9 @@ pub gives-effect : (g : Graph) (es : List Entry) (m : Marking) → gives (effect
 unfolding effect afterAll
 gives-effect g [] m = gives-identity m
 gives-effect g (e ∷ es) m =
-    gives-compose (stepRecord (rowAt g e) (e .step .0)) (effect g es) m
-    ∙ ap (gives (effect g es)) (gives-step (rowAt g e) (e .step .0) m)
-    ∙ gives-effect g es (after (rowAt g e) m (e .step .0))
+    gives-compose (stepRecord (rowMet g e) (e .step .0)) (effect g es) m
+    ∙ ap (gives (effect g es)) (gives-step (rowMet g e) (e .step .0) m)
+    ∙ gives-effect g es (after (rowMet g e) m (e .step .0))
 
 -- what they do, done twice, is what they do once
 pub after-twice : (g : Graph) (es : List Entry) (m : Marking) → afterAll g (afterAll g m es) es ≡ afterAll g m es
@@ -323,14 +323,14 @@ moved-is Verdict.Clear m next x e = cc
 moved-is (Verdict.Refused r) m next x e = absurd (let z : _≡_ {A = ℕ} 0 1 = cc in let w : ⊥ = omega arith in w)
 
 -- where all pass, they end at the marking after all of them
-pub passes-after : (g : Graph) (es : List Entry) (m x : Marking) → passes g m es ≡ some x → x ≡ afterAll g m es
-unfolding passes afterAll bind movedTo entryMove
+pub passes-after : (g : Graph) (es : List Entry) (m x : Marking) → endOfAll g m es ≡ some x → x ≡ afterAll g m es
+unfolding endOfAll afterAll bind movedTo entryMove
 passes-after g [] m x e = sym (Option·some-injective m x e)
 passes-after g (e ∷ es) m x p = go (entryMove g m e) refl (passes-after g es) p
   where
-    go : (o : Move) → entryMove g m e ≡ o → ((m x : Marking) → passes g m es ≡ some x → x ≡ afterAll g m es)
-        → bind (movedTo o) (λ next. passes g next es) ≡ some x
-        → x ≡ afterAll g (after (rowAt g e) m (e .step .0)) es
+    go : (o : Move) → entryMove g m e ≡ o → ((m x : Marking) → endOfAll g m es ≡ some x → x ≡ afterAll g m es)
+        → bind (movedTo o) (λ next. endOfAll g next es) ≡ some x
+        → x ≡ afterAll g (after (rowMet g e) m (e .step .0)) es
     go (Move.Moved next) q rest p = rest next x p
-        ∙ ap (λ (n : Marking). afterAll g n es) (moved-is (first (entryLines g m e)) m (after (rowAt g e) m (e .step .0)) next q)
+        ∙ ap (λ (n : Marking). afterAll g n es) (moved-is (first (entryLines g m e)) m (after (rowMet g e) m (e .step .0)) next q)
     go (Move.Refused r back) q rest p = absurd (Option·none-ne-some x p)

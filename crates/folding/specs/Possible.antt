@@ -14,11 +14,11 @@ use Rattle.moves.specs.Move.{personHolds, stepHas}
 use Rattle.moves.specs.Given.{clear-head, clear-tail}
 use Rattle.rules.specs.Sound.{clear-sound}
 use Rattle.tables.specs.Laws.{named-below}
-use Rattle.folding.specs.Fold.{rowAt, possible}
+use Rattle.folding.specs.Fold.{rowMet, possible}
 
 -- an entry is possible exactly if its person holds the role and its step has it
 pub possible-serves : (g : Graph) (e : Entry) → graphVerdict g ≡ Verdict.Clear
-    → possible g e ≡ (personHolds (rowAt g e) e && stepHas (rowAt g e) e)
+    → possible g e ≡ (personHolds (rowMet g e) e && stepHas (rowMet g e) e)
 unfolding setsFit
 possible-serves g e clear =
     same-truth (possible g e) (held && has-it)
@@ -26,10 +26,10 @@ possible-serves g e clear =
     (λ t. and-intro (and-intro (is (and-left held has-it t) (and-right held has-it t)) (and-left held has-it t)) (and-right held has-it t))
   where
     held : Bool
-    held = personHolds (rowAt g e) e
+    held = personHolds (rowMet g e) e
 
     has-it : Bool
-    has-it = stepHas (rowAt g e) e
+    has-it = stepHas (rowMet g e) e
 
     fit : setsFit g ≡ true
     fit = not-false (setsFit g) (clear-head _ _ (clear-tail _ _ clear))

@@ -9,7 +9,7 @@ use Rattle.sets.specs.Truth.{or-false}
 use Rattle.moves.specs.declared.Marking.{Marking}
 use Rattle.moves.specs.declared.Entry.{Entry}
 use Rattle.moves.specs.declared.Verdict.{Verdict}
-use Rattle.moves.specs.First.{Line, first, number, numberOf}
+use Rattle.moves.specs.First.{Line, first, numberOfVerdict, numberOf}
 use Rattle.moves.specs.Move.{numberOfMove}
 use Rattle.moves.specs.Given.{holds, ascends, Lowest, given-exactly}
 use Rattle.tables.specs.Tables.{countsFit, kindsApart}
@@ -33,14 +33,14 @@ use Rattle.automaton.specs.States.{start-number, idle-number, step-number}
 abbrev pub Exactly : ℕ → List Line → Type 0
 Exactly n lines = (k : ℕ) → 0 < k → (n ≡ k) ↔ Lowest k lines
 
-pub exactly : (lines : List Line) (n : ℕ) → ascends 0 lines ≡ true → n ≡ number (first lines) → Exactly n lines
+pub exactly : (lines : List Line) (n : ℕ) → ascends 0 lines ≡ true → n ≡ numberOfVerdict (first lines) → Exactly n lines
 exactly lines n up e = subst (λ (x : ℕ). Exactly x lines) (sym e) (given-exactly lines up)
 
 module _ (g : Graph) where
   -- check: 2, 4, 6
-  pub check-exactly : Exactly (number (graphVerdict g)) (graphLines g)
+  pub check-given : Exactly (numberOfVerdict (graphVerdict g)) (graphLines g)
   unfolding ascends numberOf
-  check-exactly = exactly (graphLines g) (number (graphVerdict g)) refl refl
+  check-given = exactly (graphLines g) (numberOfVerdict (graphVerdict g)) refl refl
 
   -- and each of them holds as its definition says, with whatever is stored beyond the counts
   pub check-2 : holds 2 (graphLines g) ≡ not (countsFit (g .steps) (g .people) (g .roles))
@@ -56,41 +56,41 @@ module _ (g : Graph) where
   check-6 = or-false (not (kindsApart (g .steps) (g .includes) (g .excludes)))
 
   -- take: 2, 4, 6, 8, 11 to 15
-  pub take-exactly : (m : Marking) (e : Entry) → Exactly (numberOfMove (theMove g m e)) (moveLines g m e)
+  pub take-given : (m : Marking) (e : Entry) → Exactly (numberOfMove (theMove g m e)) (moveLines g m e)
   unfolding ascends numberOf
-  take-exactly m e = exactly (moveLines g m e) (numberOfMove (theMove g m e)) refl (move-number g m e)
+  take-given m e = exactly (moveLines g m e) (numberOfMove (theMove g m e)) refl (move-number g m e)
 
   -- the kept marking: the same
-  pub keep-exactly : (m : Marking) (e : Entry) → Exactly (numberOfMove (theKept g m e .answer)) (moveLines g m e)
+  pub keep-given : (m : Marking) (e : Entry) → Exactly (numberOfMove (theKept g m e .answer)) (moveLines g m e)
   unfolding theKept
-  keep-exactly = take-exactly
+  keep-given = take-given
 
   -- finished: 2, 4, 6, 8
-  pub finished-exactly : (m : Marking) → Exactly (numberOfEnding (theEnding g m)) (startLines g m)
+  pub finished-given : (m : Marking) → Exactly (numberOfEnding (theEnding g m)) (startLines g m)
   unfolding ascends numberOf
-  finished-exactly m = exactly (startLines g m) (numberOfEnding (theEnding g m)) refl (ending-number g m)
+  finished-given m = exactly (startLines g m) (numberOfEnding (theEnding g m)) refl (ending-number g m)
 
   -- fold: 2, 4, 6, 7
-  pub fold-exactly : (j : List ℕ) → Exactly (numberOfRecorded (theFold g j)) (foldLines g j)
+  pub fold-given : (j : List ℕ) → Exactly (numberOfRecorded (theFold g j)) (foldLines g j)
   unfolding ascends numberOf theFold
-  fold-exactly j = exactly (foldLines g j) (numberOfRecorded (theFold g j)) refl (number-recorded (first (foldLines g j)) _)
+  fold-given j = exactly (foldLines g j) (numberOfRecorded (theFold g j)) refl (number-recorded (first (foldLines g j)) _)
 
   -- the tracker's start: 2, 4, 6, 8; idle: 2, 4, 6, 8, 9; step: 2, 4, 6, 8, 9, 11 to 15
-  pub start-exactly : (m : Marking) → Exactly (numberOfTracked (theStart g m)) (startLines g m)
+  pub start-given : (m : Marking) → Exactly (numberOfTracked (theStart g m)) (startLines g m)
   unfolding ascends numberOf
-  start-exactly m = exactly (startLines g m) (numberOfTracked (theStart g m)) refl (start-number g m)
+  start-given m = exactly (startLines g m) (numberOfTracked (theStart g m)) refl (start-number g m)
 
-  pub idle-exactly : (t : Track) → Exactly (numberOfTracked (theIdle g t)) (idleLines g t)
+  pub idle-given : (t : Track) → Exactly (numberOfTracked (theIdle g t)) (idleLines g t)
   unfolding ascends numberOf
-  idle-exactly t = exactly (idleLines g t) (numberOfTracked (theIdle g t)) refl (idle-number g t)
+  idle-given t = exactly (idleLines g t) (numberOfTracked (theIdle g t)) refl (idle-number g t)
 
-  pub step-exactly : (t : Track) (e : Entry) → Exactly (numberOfTracked (theStep g t e)) (stepLines g t e)
+  pub step-given : (t : Track) (e : Entry) → Exactly (numberOfTracked (theStep g t e)) (stepLines g t e)
   unfolding ascends numberOf
-  step-exactly t e = exactly (stepLines g t e) (numberOfTracked (theStep g t e)) refl (step-number g t e)
+  step-given t e = exactly (stepLines g t e) (numberOfTracked (theStep g t e)) refl (step-number g t e)
 
 -- a walk: 7
-walked-number : (k : ℕ) (v : Verdict) (s : Stride) → numberOfWalked (s .said) ≡ 0 → numberOfWalked (strideOf k v s .said) ≡ number v
-unfolding strideOf numberOfWalked number
+walked-number : (k : ℕ) (v : Verdict) (s : Stride) → numberOfWalked (s .said) ≡ 0 → numberOfWalked (strideOf k v s .said) ≡ numberOfVerdict v
+unfolding strideOf numberOfWalked numberOfVerdict
 walked-number k Verdict.Clear s e = e
 walked-number k (Verdict.Refused r) s e = refl
 
@@ -99,29 +99,29 @@ unfolding handOut numberOfWalked
 handed-number k [] = refl
 handed-number k (e ∷ rest) = refl
 
-pub walk-exactly : (j : List ℕ) (k : ℕ) → Exactly (numberOfWalked (strideAt j k .said)) (lengthLines j)
+pub walk-given : (j : List ℕ) (k : ℕ) → Exactly (numberOfWalked (strideAt j k .said)) (lengthLines j)
 unfolding ascends numberOf strideAt
-walk-exactly j k = exactly (lengthLines j) (numberOfWalked (strideAt j k .said)) refl
+walk-given j k = exactly (lengthLines j) (numberOfWalked (strideAt j k .said)) refl
     (walked-number k (first (lengthLines j)) _ (handed-number k _))
 
 module _ (n : ℕ) where
   -- join: 2, 10
-  pub join-exactly : (a b : Record) → Exactly (numberOfRecorded (theJoin n a b)) (joinLines n a b)
+  pub join-given : (a b : Record) → Exactly (numberOfRecorded (theJoin n a b)) (joinLines n a b)
   unfolding ascends numberOf theJoin
-  join-exactly a b = exactly (joinLines n a b) (numberOfRecorded (theJoin n a b)) refl (number-recorded (first (joinLines n a b)) _)
+  join-given a b = exactly (joinLines n a b) (numberOfRecorded (theJoin n a b)) refl (number-recorded (first (joinLines n a b)) _)
 
   -- apply: 2, 8, 10, 16
-  pub apply-exactly : (r : Record) (m : Marking) → Exactly (numberOfApplied (theApplication n r m)) (applyLines n r m)
+  pub apply-given : (r : Record) (m : Marking) → Exactly (numberOfApplied (theApplication n r m)) (applyLines n r m)
   unfolding ascends numberOf theApplication
-  apply-exactly r m = exactly (applyLines n r m) (numberOfApplied (theApplication n r m)) refl
+  apply-given r m = exactly (applyLines n r m) (numberOfApplied (theApplication n r m)) refl
       (number-applied (first (applyLines n r m)) m _)
 
   -- a record from its bytes: 2, 10
-  pub read-exactly : (s : List ℕ) → Exactly (numberOfRecorded (theReading n s)) (readLines n s)
+  pub read-given : (s : List ℕ) → Exactly (numberOfRecorded (theReading n s)) (readLines n s)
   unfolding ascends numberOf theReading
-  read-exactly s = exactly (readLines n s) (numberOfRecorded (theReading n s)) refl (number-recorded (first (readLines n s)) _)
+  read-given s = exactly (readLines n s) (numberOfRecorded (theReading n s)) refl (number-recorded (first (readLines n s)) _)
 
   -- and to its bytes: 2, 10, 18
-  pub write-exactly : (r : Record) (room : List ℕ) → Exactly (number (first (writeLines n r room))) (writeLines n r room)
+  pub write-given : (r : Record) (room : List ℕ) → Exactly (numberOfVerdict (first (writeLines n r room))) (writeLines n r room)
   unfolding ascends numberOf
-  write-exactly r room = exactly (writeLines n r room) (number (first (writeLines n r room))) refl refl
+  write-given r room = exactly (writeLines n r room) (numberOfVerdict (first (writeLines n r room))) refl refl

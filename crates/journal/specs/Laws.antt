@@ -24,7 +24,7 @@ use Rattle.moves.specs.Given.{first-clear, first-refused}
 use Rattle.journal.specs.declared.Ran.{Ran}
 use Rattle.journal.specs.Journal.{entryOf, entries, entryAt, lengthFits}
 use Rattle.journal.specs.Allowed.{isAllowed, refused-moved}
-use Rattle.journal.specs.Run.{goOn, lengthLines, runOf, theRun, runFrom}
+use Rattle.journal.specs.Run.{goOn, lengthLines, ranOf, theRun, runFrom}
 use Rattle.journal.specs.Inner.{runOn, run-from}
 use Rattle.journal.specs.declared.Walked.{Walked}
 use Rattle.journal.specs.Walk.{stays, handOut, strideOf, strideAt}
@@ -149,32 +149,32 @@ run-ended g m j k h = ap (λ (t : List ℕ). runOn g m k (entries t)) (drop-of-l
 
 pub run-graph : (g : Graph) (m : Marking) (j : List ℕ) (r : Refusal) → graphVerdict g ≡ Verdict.Refused r
     → theRun g m j ≡ Ran.Stopped 0 r noMarking
-unfolding theRun runOf
+unfolding theRun ranOf
 run-graph g m j r e =
-    ap (λ (v : Verdict). runOf v (runFrom g m 0 (entries j))) (first-refused (graphLines g) (lengthLines j ++ markingLines g m) r e)
+    ap (λ (v : Verdict). ranOf v (runFrom g m 0 (entries j))) (first-refused (graphLines g) (lengthLines j ++ markingLines g m) r e)
 
 pub run-length : (g : Graph) (m : Marking) (j : List ℕ) → graphVerdict g ≡ Verdict.Clear → lengthFits j ≡ false
     → theRun g m j ≡ Ran.Stopped 0 Length noMarking
-unfolding theRun runOf first
+unfolding theRun ranOf first
 run-length g m j e f =
-    ap (λ (v : Verdict). runOf v (runFrom g m 0 (entries j))) (first-clear (graphLines g) (lengthLines j ++ markingLines g m) e
+    ap (λ (v : Verdict). ranOf v (runFrom g m 0 (entries j))) (first-clear (graphLines g) (lengthLines j ++ markingLines g m) e
     ∙ ap (λ (b : Bool). cond (not b) (Verdict.Refused Length) (first (markingLines g m))) f)
 
 pub run-outside : (g : Graph) (m : Marking) (j : List ℕ) → graphVerdict g ≡ Verdict.Clear → lengthFits j ≡ true
     → markingFits (g .steps) m ≡ false
     → theRun g m j ≡ Ran.Stopped 0 Outside noMarking
-unfolding theRun runOf first
+unfolding theRun ranOf first
 run-outside g m j e f o =
-    ap (λ (v : Verdict). runOf v (runFrom g m 0 (entries j))) (first-clear (graphLines g) (lengthLines j ++ markingLines g m) e
+    ap (λ (v : Verdict). ranOf v (runFrom g m 0 (entries j))) (first-clear (graphLines g) (lengthLines j ++ markingLines g m) e
     ∙ ap (λ (b : Bool). cond (not b) (Verdict.Refused Length) (first (markingLines g m))) f
     ∙ ap (λ (b : Bool). cond (not b) (Verdict.Refused Outside) Verdict.Clear) o)
 
 pub run-clear : (g : Graph) (m : Marking) (j : List ℕ) → graphVerdict g ≡ Verdict.Clear → lengthFits j ≡ true
     → markingFits (g .steps) m ≡ true
     → theRun g m j ≡ runFrom g m 0 (entries j)
-unfolding theRun runOf first
+unfolding theRun ranOf first
 run-clear g m j e f i =
-    ap (λ (v : Verdict). runOf v (runFrom g m 0 (entries j))) (first-clear (graphLines g) (lengthLines j ++ markingLines g m) e
+    ap (λ (v : Verdict). ranOf v (runFrom g m 0 (entries j))) (first-clear (graphLines g) (lengthLines j ++ markingLines g m) e
     ∙ ap (λ (b : Bool). cond (not b) (Verdict.Refused Length) (first (markingLines g m))) f
     ∙ ap (λ (b : Bool). cond (not b) (Verdict.Refused Outside) Verdict.Clear) i)
 

@@ -36,13 +36,13 @@ runLines g m j = graphLines g ++ lengthLines j ++ markingLines g m
 -- ---- the answer
 
 -- a refusal below 11 holds zeros in every further place
-unfoldable pub runOf : Verdict → Ran → Ran
-runOf Verdict.Clear ran = ran
-runOf (Verdict.Refused r) ran = Ran.Stopped 0 r noMarking
+unfoldable pub ranOf : Verdict → Ran → Ran
+ranOf Verdict.Clear ran = ran
+ranOf (Verdict.Refused r) ran = Ran.Stopped 0 r noMarking
 
 -- any journal on anything
 unfoldable pub theRun : Graph → Marking → List ℕ → Ran
-theRun g m j = runOf (first (runLines g m j)) (runFrom g m 0 (entries j))
+theRun g m j = ranOf (first (runLines g m j)) (runFrom g m 0 (entries j))
 
 -- ---- document 01's number and values of each case
 

@@ -22,14 +22,14 @@ abbrev pub still : ℕ → Marking → ℕ → ℕ
 still x m s = minus (meet (meet (m .due) (m .included)) x) (single s)
 
 -- entry k in marking m: where it is allowed the leg goes on with the marking after, else it stops there
-unfoldable pub goOn : ℕ → Move → (Marking → Leg) → Leg
-goOn k (Move.Moved next) rest = rest next
-goOn k (Move.Refused r back) rest = Leg.Stopped k r
+unfoldable pub goThrough : ℕ → Move → (Marking → Leg) → Leg
+goThrough k (Move.Moved next) rest = rest next
+goThrough k (Move.Refused r back) rest = Leg.Stopped k r
 
 -- through the entries from entry k on, in marking m, with x left so far
 unfoldable pub legOn : Graph → Marking → ℕ → ℕ → List Entry → Leg
 legOn g m x k [] = Leg.Ended m x
-legOn g m x k (e ∷ rest) = goOn k (entryMove g m e) (λ next. legOn g next (still x m (e .step .0)) (k + 1) rest)
+legOn g m x k (e ∷ rest) = goThrough k (entryMove g m e) (λ next. legOn g next (still x m (e .step .0)) (k + 1) rest)
 
 abbrev pub legOf : Graph → Marking → List Entry → Leg
 legOf g m es = legOn g m (full 64) 0 es

@@ -21,8 +21,8 @@ use Rattle.laps.specs.Endless.{RefusedAt, GoesOn, Accepting, Starves}
 -- ---- the run
 
 -- the entry at position i of stem, lap, lap, .. (the lap has at least one entry)
-unfoldable pub runOf : List Entry → List Entry → ℕ → Entry
-runOf stem lap i = cond (ltb i (length stem)) (getD stem i (entryOf 0 0 0)) (getD lap ((i - length stem) % length lap) (entryOf 0 0 0))
+unfoldable pub endlessRun : List Entry → List Entry → ℕ → Entry
+endlessRun stem lap i = cond (ltb i (length stem)) (getD stem i (entryOf 0 0 0)) (getD lap ((i - length stem) % length lap) (entryOf 0 0 0))
 
 -- its index in the stem or lap
 unfoldable pub indexAt : List Entry → List Entry → ℕ → ℕ
@@ -87,7 +87,7 @@ lapLines g m stem lap = graphLines g ++ lengthsLines stem lap ++ markingLines g 
 -- entry k of pass p is the first that is not allowed
 pub record Stops (g : Graph) (m : Marking) (stem lap : List Entry) (k : ℕ) (p : Pass) (r : Refusal) : Type 0 where
   pub position : ℕ
-  pub refused : RefusedAt g m (runOf stem lap) position r
+  pub refused : RefusedAt g m (endlessRun stem lap) position r
   pub index : k ≡ indexAt stem lap position
   pub pass : numberOfPass p ≡ passAt stem lap position
 
@@ -99,9 +99,9 @@ LapAnswer g m stem lap (Lapped.Stopped k p r) = (first (lapLines g m stem lap) �
     × Stops g m (entries stem) (entries lap) k p r
 LapAnswer g m stem lap Lapped.Accepted =
     (first (lapLines g m stem lap) ≡ Verdict.Clear)
-    × GoesOn g m (runOf (entries stem) (entries lap))
-    × Accepting g m (runOf (entries stem) (entries lap))
+    × GoesOn g m (endlessRun (entries stem) (entries lap))
+    × Accepting g m (endlessRun (entries stem) (entries lap))
 LapAnswer g m stem lap (Lapped.Starved s) =
     (first (lapLines g m stem lap) ≡ Verdict.Clear)
-    × GoesOn g m (runOf (entries stem) (entries lap))
-    × Starves g m (runOf (entries stem) (entries lap)) (s .0)
+    × GoesOn g m (endlessRun (entries stem) (entries lap))
+    × Starves g m (endlessRun (entries stem) (entries lap)) (s .0)

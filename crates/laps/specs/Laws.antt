@@ -21,7 +21,7 @@ use Rattle.journal.specs.Journal.{entries}
 use Rattle.laps.specs.declared.Lapped.{Lapped}
 use Rattle.laps.specs.declared.Pass.{Pass}
 use Rattle.laps.specs.Endless.{markingAt, movedAt, TakenAt, DoneAt, ExcludedAt, RefusedAt, GoesOn, Accepting, Starving, Starves}
-use Rattle.laps.specs.Laps.{runOf, indexAt, passAt, numberOfPass, lapLines, Stops, LapAnswer}
+use Rattle.laps.specs.Laps.{endlessRun, indexAt, passAt, numberOfPass, lapLines, Stops, LapAnswer}
 use Rattle.laps.specs.Decision.{decision, lapOf, theLap}
 use Rattle.laps.specs.Places.{never-later}
 use Rattle.laps.specs.Right.{some, sound, inside, decision-right}
@@ -89,7 +89,7 @@ module _ (g : Graph) (m : Marking) (stem lap : List ℕ) where
   L = entries lap
 
   abbrev e : ℕ → Entry
-  e i = runOf S L i
+  e i = endlessRun S L i
 
   -- the table goes up, so that the number given is the lowest that holds (`first-lowest` of the rules)
   pub lines-ascend : ascends 0 (lapLines g m stem lap) ≡ true
@@ -161,15 +161,15 @@ module _ (g : Graph) (m : Marking) (stem lap : List ℕ) where
   abbrev pub IsStarved : Type 0
   IsStarved = GoesOn g m e × ((s : ℕ) × Starving g m e s)
 
-  pub record ExactlyOne : Type 0 where
+  pub record OneOfThree : Type 0 where
     pub one : IsRefused ⊎ (IsAccepted ⊎ IsStarved)
     pub refused-accepted : IsRefused → IsAccepted → ⊥
     pub refused-starved : IsRefused → IsStarved → ⊥
     pub accepted-starved : IsAccepted → IsStarved → ⊥
 
-  pub exactly-one : first (lapLines g m stem lap) ≡ Verdict.Clear → ExactlyOne
+  pub one-of-three : first (lapLines g m stem lap) ≡ Verdict.Clear → OneOfThree
   unfolding LapAnswer
-  exactly-one clear =
+  one-of-three clear =
       record {
         one = go (decision g m S L) (decision-right g m stem lap clear);
         refused-accepted = λ a b. on-or-stopped (a .0) (a .1) (a .2) (b .0) (a .3);

@@ -25,7 +25,7 @@ use Rattle.folding.specs.Effect.{afterAll}
 use Rattle.laps.specs.declared.inner.Leg.{Leg}
 use Rattle.laps.specs.Endless.{stepAt, markingAt, DueAt, DoneAt, ExcludedAt, Waiting}
 use Rattle.laps.specs.Inner.{verdictAt}
-use Rattle.laps.specs.Decision.{still, goOn, legOn}
+use Rattle.laps.specs.Decision.{still, goThrough, legOn}
 
 -- ---- one step
 
@@ -183,7 +183,7 @@ module _ (g : Graph) (m : Marking) (e : ℕ → Entry) where
     pub here : says (i + depth) ≡ Verdict.Refused refusal
 
   leg-walks : (n i w k : ℕ) → Passed i n w (legOn g (M i) w k (chunk e n i)) ⊎ Barred i n k (legOn g (M i) w k (chunk e n i))
-  unfolding legOn chunk goOn entryMove moveOf markingAt
+  unfolding legOn chunk goThrough entryMove moveOf markingAt
   leg-walks zero i w k =
       inl (record {
         left = w;
@@ -207,9 +207,9 @@ module _ (g : Graph) (m : Marking) (e : ℕ → Entry) where
           at (no p) = ap says (let z : j ≡ i = omega arith in z) ∙ q
 
       go : (v : Verdict) → says i ≡ v → Passed (suc i) n (still w (M i) (stepAt g m e i)) rest ⊎ Barred (suc i) n (k + 1) rest
-          → Passed i (suc n) w (goOn k (moveOf v (M i) (M (suc i)))
+          → Passed i (suc n) w (goThrough k (moveOf v (M i) (M (suc i)))
           (λ next. legOn g next (still w (M i) (stepAt g m e i)) (k + 1) (chunk e n (suc i))))
-          ⊎ Barred i (suc n) k (goOn k (moveOf v (M i) (M (suc i)))
+          ⊎ Barred i (suc n) k (goThrough k (moveOf v (M i) (M (suc i)))
           (λ next. legOn g next (still w (M i) (stepAt g m e i)) (k + 1) (chunk e n (suc i))))
       go Verdict.Clear q (inl p) =
           inl (record {

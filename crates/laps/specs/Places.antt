@@ -25,7 +25,7 @@ use Rattle.folding.specs.Laws.{after-twice}
 use Rattle.laps.specs.declared.Pass.{Pass}
 use Rattle.laps.specs.Endless.{movedAt, TakenAt, markingAt, DueAt, Waiting, Starving}
 use Rattle.laps.specs.Inner.{verdictAt, Unbarred, taken-clear, moves-at}
-use Rattle.laps.specs.Laps.{runOf, indexAt, passAt, numberOfPass, Stops}
+use Rattle.laps.specs.Laps.{endlessRun, indexAt, passAt, numberOfPass, Stops}
 use Rattle.laps.specs.Legs.{chunk, chunk-is, after-chunk, Kept}
 use Rattle.laps.specs.Repeats.{Decides, for-ever, starving-from, period-decides}
 
@@ -39,9 +39,9 @@ module _ (stem lap : List Entry) (some : 0 < length lap) where
   abbrev second-lap : ℕ
   second-lap = length stem + length lap
 
-  pub in-stem : (d : ℕ) → d < length stem → (runOf stem lap d ≡ getD stem d (entryOf 0 0 0)) × (indexAt stem lap d ≡ d)
+  pub in-stem : (d : ℕ) → d < length stem → (endlessRun stem lap d ≡ getD stem d (entryOf 0 0 0)) × (indexAt stem lap d ≡ d)
       × (passAt stem lap d ≡ 0)
-  unfolding runOf indexAt passAt
+  unfolding endlessRun indexAt passAt
   in-stem d h = let q : ltb d (length stem) ≡ true = lt-ltb d (length stem) h in (simp q, simp q, simp q)
 
   -- the place in the lap
@@ -51,8 +51,8 @@ module _ (stem lap : List Entry) (some : 0 < length lap) where
       ∙ add-mod-right d (length lap) ∙ mod-eq-of-lt h
 
   pub in-lap : (i d : ℕ) → d < length lap → (i ≡ length stem + d) ⊎ (i ≡ length stem + length lap + d) → length stem ≤ i
-      → (runOf stem lap i ≡ getD lap d (entryOf 0 0 0)) × (indexAt stem lap i ≡ d)
-  unfolding runOf indexAt
+      → (endlessRun stem lap i ≡ getD lap d (entryOf 0 0 0)) × (indexAt stem lap i ≡ d)
+  unfolding endlessRun indexAt
   in-lap i d h p l =
       let q : ltb i (length stem) ≡ false = le-ltb i (length stem) l in
       let r : (i - length stem) % length lap ≡ d = place i d h p in
@@ -87,8 +87,8 @@ module _ (stem lap : List Entry) (some : 0 < length lap) where
       go false false = simp low (omega arith)
 
   -- from the lap on the entries come again with every lap
-  run-again : (i : ℕ) → length stem ≤ i → runOf stem lap (i + length lap) ≡ runOf stem lap i
-  unfolding runOf
+  run-again : (i : ℕ) → length stem ≤ i → endlessRun stem lap (i + length lap) ≡ endlessRun stem lap i
+  unfolding endlessRun
   run-again i h =
       let q : ltb i (length stem) ≡ false = le-ltb i (length stem) h in
       let r : ltb (i + length lap) (length stem) ≡ false =
@@ -98,18 +98,18 @@ module _ (stem lap : List Entry) (some : 0 < length lap) where
       ∙ add-mod-right (i - length stem) (length lap) in
       simp (q, r, t)
 
-  pub stem-stands : chunk (runOf stem lap) (length stem) 0 ≡ stem
-  stem-stands = chunk-is (runOf stem lap) (entryOf 0 0 0) stem 0
-      (λ k h. ap (runOf stem lap) (let z : 0 + k ≡ k = omega arith in z) ∙ in-stem k h .0)
+  pub stem-stands : chunk (endlessRun stem lap) (length stem) 0 ≡ stem
+  stem-stands = chunk-is (endlessRun stem lap) (entryOf 0 0 0) stem 0
+      (λ k h. ap (endlessRun stem lap) (let z : 0 + k ≡ k = omega arith in z) ∙ in-stem k h .0)
 
-  pub lap-stands : chunk (runOf stem lap) (length lap) first-lap ≡ lap
+  pub lap-stands : chunk (endlessRun stem lap) (length lap) first-lap ≡ lap
   lap-stands =
-      chunk-is (runOf stem lap) (entryOf 0 0 0) lap first-lap
+      chunk-is (endlessRun stem lap) (entryOf 0 0 0) lap first-lap
       (λ k h. in-lap (length stem + k) k h (inl refl) (let z : length stem ≤ length stem + k = omega arith in z) .0)
 
-  pub lap-stands-again : chunk (runOf stem lap) (length lap) second-lap ≡ lap
+  pub lap-stands-again : chunk (endlessRun stem lap) (length lap) second-lap ≡ lap
   lap-stands-again =
-      chunk-is (runOf stem lap) (entryOf 0 0 0) lap second-lap
+      chunk-is (endlessRun stem lap) (entryOf 0 0 0) lap second-lap
       (λ k h. in-lap (length stem + length lap + k) k h (inr refl)
       (let z : length stem ≤ length stem + length lap + k = omega arith in z) .0)
 
@@ -117,7 +117,7 @@ module _ (stem lap : List Entry) (some : 0 < length lap) where
 
   module _ (g : Graph) (m : Marking) where
     abbrev e : ℕ → Entry
-    e i = runOf stem lap i
+    e i = endlessRun stem lap i
 
     abbrev M : ℕ → Marking
     M i = markingAt g m e i

@@ -29,7 +29,7 @@ use Rattle.laps.specs.declared.Pass.{Pass}
 use Rattle.laps.specs.declared.inner.Leg.{Leg}
 use Rattle.laps.specs.Endless.{GoesOn, markingAt, DueAt}
 use Rattle.laps.specs.Inner.{verdictAt, Unbarred, inside-until, moves-at, refuses-at}
-use Rattle.laps.specs.Laps.{runOf, indexAt, passAt, numberOfPass, lengthsLines, emptyLines, lapLines, LapAnswer}
+use Rattle.laps.specs.Laps.{endlessRun, indexAt, passAt, numberOfPass, lengthsLines, emptyLines, lapLines, LapAnswer}
 use Rattle.laps.specs.Decision.{legOf, upon, judged, secondLap, firstLap, decision}
 use Rattle.laps.specs.Legs.{Kept, Passed, Barred, leg-tells}
 use Rattle.laps.specs.Repeats.{Decides}
@@ -62,7 +62,7 @@ module _ (g : Graph) (m : Marking) (stem lap : List ℕ) where
   L = entries lap
 
   abbrev e : ℕ → Entry
-  e i = runOf S L i
+  e i = endlessRun S L i
 
   module _ (clear : first (lapLines g m stem lap) ≡ Verdict.Clear) where
     pub sound : graphVerdict g ≡ Verdict.Clear

@@ -30,7 +30,7 @@ use Rattle.laps.specs.declared.Lapped.{Lapped}
 use Rattle.laps.specs.declared.Pass.{Pass}
 use Rattle.laps.specs.declared.inner.Leg.{Leg}
 use Rattle.laps.specs.Laps.{lengthsLines, emptyLines, lapLines}
-use Rattle.laps.specs.Decision.{still, goOn, legOn, legOf, upon}
+use Rattle.laps.specs.Decision.{still, goThrough, legOn, legOf, upon}
 
 -- ---- a leg, entry by entry
 
@@ -39,28 +39,28 @@ module _ (g : Graph) (m : Marking) (x : ℕ) (j : List ℕ) (k : ℕ) where
   pub leg-moved : (next : Marking) (y : ℕ) → 3 * k + 3 ≤ length j → entryMove g m (entryAt j k) ≡ Move.Moved next
       → y ≡ still x m (entryAt j k .step .0)
       → legOn g m x k (entries (drop (3 * k) j)) ≡ legOn g next y (k + 1) (entries (drop (3 * (k + 1)) j))
-  unfolding legOn goOn
+  unfolding legOn goThrough
   leg-moved next y h q e =
       ap (legOn g m x k) (entries-from j k h)
-      ∙ ap (λ (o : Move). goOn k o (λ n. legOn g n (still x m (entryAt j k .step .0)) (k + 1) (entries (drop (3 * k + 3) j)))) q
+      ∙ ap (λ (o : Move). goThrough k o (λ n. legOn g n (still x m (entryAt j k .step .0)) (k + 1) (entries (drop (3 * k + 3) j)))) q
       ∙ ap (λ (z : ℕ). legOn g next z (k + 1) (entries (drop (3 * k + 3) j))) (sym e)
       ∙ ap (λ (z : ℕ). legOn g next y (k + 1) (entries (drop z j))) (let w : 3 * k + 3 ≡ 3 * (k + 1) = omega arith in w)
 
   -- it is not: the leg stops there
   leg-refused : (r : Refusal) (back : Marking) → 3 * k + 3 ≤ length j → entryMove g m (entryAt j k) ≡ Move.Refused r back
       → legOn g m x k (entries (drop (3 * k) j)) ≡ Leg.Stopped k r
-  unfolding legOn goOn
+  unfolding legOn goThrough
   leg-refused r back h q =
       ap (legOn g m x k) (entries-from j k h)
-      ∙ ap (λ (o : Move). goOn k o (λ n. legOn g n (still x m (entryAt j k .step .0)) (k + 1) (entries (drop (3 * k + 3) j)))) q
+      ∙ ap (λ (o : Move). goThrough k o (λ n. legOn g n (still x m (entryAt j k .step .0)) (k + 1) (entries (drop (3 * k + 3) j)))) q
 
   -- whatever the refusal, which is the move's to say
   pub leg-stopped : 3 * k + 3 ≤ length j → isAllowed g m (entryAt j k) ≡ false
-      → legOn g m x k (entries (drop (3 * k) j)) ≡ goOn k (entryMove g m (entryAt j k)) (λ next. Leg.Ended next 0)
-  unfolding goOn
+      → legOn g m x k (entries (drop (3 * k) j)) ≡ goThrough k (entryMove g m (entryAt j k)) (λ next. Leg.Ended next 0)
+  unfolding goThrough
   leg-stopped h out =
       let f = refused-moved g m (entryAt j k) out in
-      leg-refused (f .0) (f .1) h (f .2) ∙ ap (λ (o : Move). goOn k o (λ next. Leg.Ended next 0)) (sym (f .2))
+      leg-refused (f .0) (f .1) h (f .2) ∙ ap (λ (o : Move). goThrough k o (λ next. Leg.Ended next 0)) (sym (f .2))
 
   -- there is none
   pub leg-ended : length j ≤ 3 * k → legOn g m x k (entries (drop (3 * k) j)) ≡ Leg.Ended m x
@@ -87,14 +87,14 @@ uponRun (Ran.Stopped k r m) p rest = Lapped.Stopped k p r
 
 leg-run : (g : Graph) (p : Pass) (rest : Marking → Lapped) (es : List Entry) (m : Marking) (x k : ℕ)
     → upon (legOn g m x k es) p (λ end y. rest end) ≡ uponRun (runOn g m k es) p rest
-unfolding upon uponRun legOn goOn runOn run.goOn
+unfolding upon uponRun legOn goThrough runOn run.goOn
 leg-run g p rest [] m x k = refl
 leg-run g p rest (e ∷ es) m x k = go (entryMove g m e) (λ next. leg-run g p rest es next (still x m (e .step .0)) (k + 1))
   where
     go : (o : Move)
         → ((next : Marking) → upon (legOn g next (still x m (e .step .0)) (k + 1) es) p (λ end y. rest end) ≡ uponRun
         (runOn g next (k + 1) es) p rest)
-        → upon (goOn k o (λ next. legOn g next (still x m (e .step .0)) (k + 1) es)) p (λ end y. rest end) ≡ uponRun
+        → upon (goThrough k o (λ next. legOn g next (still x m (e .step .0)) (k + 1) es)) p (λ end y. rest end) ≡ uponRun
         (run.goOn k m o (λ next. runOn g next (k + 1) es)) p rest
     go (Move.Moved next) more = more next
     go (Move.Refused r back) more = refl

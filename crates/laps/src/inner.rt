@@ -8,7 +8,7 @@ ghost use Rattle.rules.specs.Answers.{entryMove};
 ghost use Rattle.sets.specs.Sets.{lowest};
 ghost use Rattle.journal.specs.Journal.{entries};
 ghost use Rattle.laps.specs.declared.inner.Leg.{Leg};
-ghost use Rattle.laps.specs.Decision.{still, goOn, judged, legOf, secondLap, firstLap, decision};
+ghost use Rattle.laps.specs.Decision.{still, goThrough, judged, legOf, secondLap, firstLap, decision};
 use crate::Lapped;
 use crate::Pass;
 use journal::Ran;
@@ -63,7 +63,7 @@ fn judge(x: u64) -> Lapped
 // Where a leg stops at an entry that is not allowed. Refusals 11 to 15.
 fn stopped<'a>(g: &'a Job, m: Marking, e: Entry, index: u16) -> Leg
     requires { ⌜ graphVerdict (graphOf (now g)) ≡ Verdict.Clear ⌝ }
-    ensures { λ r. ⌜ r ≡ goOn index (entryMove (graphOf (now (g .entry))) m e) (λ next. Leg.Ended next 0) ⌝ }
+    ensures { λ r. ⌜ r ≡ goThrough index (entryMove (graphOf (now (g .entry))) m e) (λ next. Leg.Ended next 0) ⌝ }
 {
     match enter(g, m, e) {
         Move::Moved(next) => Leg::Ended(next, 0),

@@ -53,7 +53,7 @@ stepOf Room = 0
 
 -- both together
 unfoldable pub toldOf : Refusal → Told
-toldOf r = record { number = numberOf r; step = stepOf r }
+toldOf r = record { numberOfVerdict = numberOf r; step = stepOf r }
 
 -- a line of a call's table: a refusal, and whether it holds
 abbrev pub Line : Type 0
@@ -65,6 +65,6 @@ first [] = Verdict.Clear
 first (l ∷ rest) = cond (l .1) (Verdict.Refused (l .0)) (first rest)
 
 -- 0 where nothing holds
-unfoldable pub number : Verdict → ℕ
-number Verdict.Clear = 0
-number (Verdict.Refused r) = numberOf r
+unfoldable pub numberOfVerdict : Verdict → ℕ
+numberOfVerdict Verdict.Clear = 0
+numberOfVerdict (Verdict.Refused r) = numberOf r

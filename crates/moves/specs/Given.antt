@@ -11,7 +11,7 @@ use borrow.Author.Tests.{ltb-true, eq-eqb, eqb-true}
 use Rattle.sets.specs.Truth.{and-left, and-right, and-intro, or-first, or-second, or-split}
 use Rattle.moves.specs.declared.Refusal.{Refusal}
 use Rattle.moves.specs.declared.Verdict.{Verdict}
-use Rattle.moves.specs.First.{Line, first, number, numberOf}
+use Rattle.moves.specs.First.{Line, first, numberOfVerdict, numberOf}
 
 -- ---- the first line that holds
 
@@ -138,9 +138,9 @@ above k (l ∷ a) j h e =
     above (numberOf (l .0)) a j (and-right (ltb k (numberOf (l .0))) (ascends (numberOf (l .0)) a) h) t in omega arith)
 
 -- no lower number holds; and where none is given none holds
-pub first-lowest : (k : ℕ) (a : List Line) → ascends k a ≡ true → (j : ℕ) → holds j a ≡ true → (0 < number (first a))
-    × (number (first a) ≤ j)
-unfolding ascends holds first number
+pub first-lowest : (k : ℕ) (a : List Line) → ascends k a ≡ true → (j : ℕ) → holds j a ≡ true → (0 < numberOfVerdict (first a))
+    × (numberOfVerdict (first a) ≤ j)
+unfolding ascends holds first numberOfVerdict
 first-lowest k [] h j e = absurd (false≢true e)
 first-lowest k (l ∷ a) h j e =
     go (l .1) refl (first-lowest (numberOf (l .0)) a (and-right (ltb k (numberOf (l .0))) (ascends (numberOf (l .0)) a) h) j)
@@ -148,11 +148,11 @@ first-lowest k (l ∷ a) h j e =
     here : k < numberOf (l .0)
     here = ltb-true k (numberOf (l .0)) (and-left (ltb k (numberOf (l .0))) (ascends (numberOf (l .0)) a) h)
 
-    go : (b : Bool) → l .1 ≡ b → (holds j a ≡ true → (0 < number (first a)) × (number (first a) ≤ j))
-        → (0 < number (cond (l .1) (Verdict.Refused (l .0)) (first a))) × (number (cond (l .1) (Verdict.Refused (l .0)) (first a)) ≤ j)
+    go : (b : Bool) → l .1 ≡ b → (holds j a ≡ true → (0 < numberOfVerdict (first a)) × (numberOfVerdict (first a) ≤ j))
+        → (0 < numberOfVerdict (cond (l .1) (Verdict.Refused (l .0)) (first a))) × (numberOfVerdict (cond (l .1) (Verdict.Refused (l .0)) (first a)) ≤ j)
     go true p rest =
-        subst (λ (b : Bool). (0 < number (cond b (Verdict.Refused (l .0)) (first a)))
-        × (number (cond b (Verdict.Refused (l .0)) (first a)) ≤ j)) (sym p) (
+        subst (λ (b : Bool). (0 < numberOfVerdict (cond b (Verdict.Refused (l .0)) (first a)))
+        × (numberOfVerdict (cond b (Verdict.Refused (l .0)) (first a)) ≤ j)) (sym p) (
           let up : k < numberOf (l .0) = here in omega arith,
           or-split (eqb (numberOf (l .0)) j && l .1) (holds j a) (numberOf (l .0) ≤ j) e
               (λ t. let q : numberOf (l .0) ≡ j = eqb-true (numberOf (l .0)) j (and-left (eqb (numberOf (l .0)) j) (l .1) t) in omega arith)
@@ -160,8 +160,8 @@ first-lowest k (l ∷ a) h j e =
               above (numberOf (l .0)) a j (and-right (ltb k (numberOf (l .0))) (ascends (numberOf (l .0)) a) h) t in omega arith),
         )
     go false p rest =
-        subst (λ (b : Bool). (0 < number (cond b (Verdict.Refused (l .0)) (first a)))
-        × (number (cond b (Verdict.Refused (l .0)) (first a)) ≤ j)) (sym p)
+        subst (λ (b : Bool). (0 < numberOfVerdict (cond b (Verdict.Refused (l .0)) (first a)))
+        × (numberOfVerdict (cond b (Verdict.Refused (l .0)) (first a)) ≤ j)) (sym p)
         (rest (or-split (eqb (numberOf (l .0)) j && l .1) (holds j a) (holds j a ≡ true) e
         (λ t. absurd (true≢false (sym (and-right (eqb (numberOf (l .0)) j) (l .1) t) ∙ p)))
         (λ t. t)))
@@ -174,42 +174,42 @@ pub record Lowest (k : ℕ) (lines : List Line) : Type 0 where
   pub least : (j : ℕ) → holds j lines ≡ true → k ≤ j
 
 -- what is given holds
-given-holds : (lines : List Line) (v : Verdict) → first lines ≡ v → 0 < number v → holds (number v) lines ≡ true
-unfolding number
+given-holds : (lines : List Line) (v : Verdict) → first lines ≡ v → 0 < numberOfVerdict v → holds (numberOfVerdict v) lines ≡ true
+unfolding numberOfVerdict
 given-holds lines Verdict.Clear e h = absurd (let z : ⊥ = omega arith in z)
 given-holds lines (Verdict.Refused r) e h = first-holds lines r e
 
 -- a table whose numbers go up gives a number exactly if it is the lowest that holds
-pub given-exactly : (lines : List Line) → ascends 0 lines ≡ true → (k : ℕ) → 0 < k → (number (first lines) ≡ k) ↔ Lowest k lines
+pub given-exactly : (lines : List Line) → ascends 0 lines ≡ true → (k : ℕ) → 0 < k → (numberOfVerdict (first lines) ≡ k) ↔ Lowest k lines
 given-exactly lines up k h = (there, back)
   where
-    there : number (first lines) ≡ k → Lowest k lines
+    there : numberOfVerdict (first lines) ≡ k → Lowest k lines
     there e = record {
       here = subst (λ (j : ℕ). holds j lines ≡ true) e (given-holds lines (first lines) refl (subst (λ (j : ℕ). 0 < j) (sym e) h));
       least = λ j t. subst (λ (n : ℕ). n ≤ j) e (first-lowest 0 lines up j t .1);
     }
 
-    back : Lowest k lines → number (first lines) ≡ k
+    back : Lowest k lines → numberOfVerdict (first lines) ≡ k
     back l =
         let low = first-lowest 0 lines up k (l .here) in
-        let high : k ≤ number (first lines) = l .least (number (first lines)) (given-holds lines (first lines) refl (low .0)) in
-        let most : number (first lines) ≤ k = low .1 in
+        let high : k ≤ numberOfVerdict (first lines) = l .least (numberOfVerdict (first lines)) (given-holds lines (first lines) refl (low .0)) in
+        let most : numberOfVerdict (first lines) ≤ k = low .1 in
         omega arith
 
 -- nothing is given exactly if no number holds
-pub nothing-exactly : (lines : List Line) → ascends 0 lines ≡ true → (number (first lines) ≡ 0) ↔ ((j : ℕ) → holds j lines ≡ false)
-unfolding number
+pub nothing-exactly : (lines : List Line) → ascends 0 lines ≡ true → (numberOfVerdict (first lines) ≡ 0) ↔ ((j : ℕ) → holds j lines ≡ false)
+unfolding numberOfVerdict
 nothing-exactly lines up = (there, back (first lines) refl)
   where
-    there : number (first lines) ≡ 0 → (j : ℕ) → holds j lines ≡ false
+    there : numberOfVerdict (first lines) ≡ 0 → (j : ℕ) → holds j lines ≡ false
     there e j = go (holds j lines) refl
       where
         go : (b : Bool) → holds j lines ≡ b → holds j lines ≡ false
-        go true t = absurd (let z : 0 < number (first lines) = first-lowest 0 lines up j t .0 in let w : ⊥ = omega arith in w)
+        go true t = absurd (let z : 0 < numberOfVerdict (first lines) = first-lowest 0 lines up j t .0 in let w : ⊥ = omega arith in w)
         go false t = t
 
-    back : (v : Verdict) → first lines ≡ v → ((j : ℕ) → holds j lines ≡ false) → number (first lines) ≡ 0
-    back Verdict.Clear e none = ap number e
+    back : (v : Verdict) → first lines ≡ v → ((j : ℕ) → holds j lines ≡ false) → numberOfVerdict (first lines) ≡ 0
+    back Verdict.Clear e none = ap numberOfVerdict e
     back (Verdict.Refused r) e none = absurd (true≢false (sym (first-holds lines r e) ∙ none (numberOf r)))
 
 -- number k holds of two tables together exactly if it holds of one of them

@@ -11,7 +11,7 @@ use Rattle.sets.specs.Laws.{union-lt, minus-lt}
 use Rattle.moves.specs.declared.Marking.{Marking}
 use Rattle.moves.specs.declared.Refusal.the-variants.{Counts, Outside, IllFormed, NotApplied}
 use Rattle.moves.specs.declared.Verdict.{Verdict}
-use Rattle.moves.specs.First.{first, number, numberOf}
+use Rattle.moves.specs.First.{first, numberOfVerdict, numberOf}
 use Rattle.moves.specs.Move.{within1to, markingFits}
 use Rattle.moves.specs.Inside.{Inside}
 use Rattle.records.specs.declared.Record.{Record}
@@ -81,12 +81,12 @@ gives-inside n r m b i =
     }
 
 -- the number of an answer is the first that holds of its table
-pub number-recorded : (v : Verdict) (r : Record) → numberOfRecorded (recordedOf v r) ≡ number v
-unfolding numberOfRecorded recordedOf number
+pub number-recorded : (v : Verdict) (r : Record) → numberOfRecorded (recordedOf v r) ≡ numberOfVerdict v
+unfolding numberOfRecorded recordedOf numberOfVerdict
 number-recorded Verdict.Clear r = refl
 number-recorded (Verdict.Refused q) r = refl
 
-pub number-applied : (v : Verdict) (m x : Marking) → numberOfApplied (appliedOf v m x) ≡ number v
-unfolding numberOfApplied appliedOf number
+pub number-applied : (v : Verdict) (m x : Marking) → numberOfApplied (appliedOf v m x) ≡ numberOfVerdict v
+unfolding numberOfApplied appliedOf numberOfVerdict
 number-applied Verdict.Clear m x = refl
 number-applied (Verdict.Refused q) m x = refl

@@ -10,7 +10,7 @@ use lib.ListN.{length}
 use lib.Dec.{ltb}
 use Rattle.moves.specs.declared.Marking.{Marking}
 use Rattle.moves.specs.declared.Verdict.{Verdict}
-use Rattle.moves.specs.First.{Line, first, number, numberOf}
+use Rattle.moves.specs.First.{Line, first, numberOfVerdict, numberOf}
 use Rattle.rules.specs.Graph.{Graph, setsFit}
 use Rattle.tables.specs.Tables.{countsFit, kindsApart}
 use Rattle.moves.specs.Move.{markingFits}
@@ -26,41 +26,41 @@ pub record Lowest (k : ℕ) (lines : List Line) : Type 0 where
   pub least : (j : ℕ) → holds j lines ≡ true → k ≤ j
 
 -- what is given holds
-given-holds : (lines : List Line) (v : Verdict) → first lines ≡ v → 0 < number v → holds (number v) lines ≡ true
-unfolding number
+given-holds : (lines : List Line) (v : Verdict) → first lines ≡ v → 0 < numberOfVerdict v → holds (numberOfVerdict v) lines ≡ true
+unfolding numberOfVerdict
 given-holds lines Verdict.Clear e h = absurd (let z : ⊥ = omega arith in z)
 given-holds lines (Verdict.Refused r) e h = first-holds lines r e
 
-pub given-exactly : (lines : List Line) → ascends 0 lines ≡ true → (k : ℕ) → 0 < k → (number (first lines) ≡ k) ↔ Lowest k lines
+pub given-exactly : (lines : List Line) → ascends 0 lines ≡ true → (k : ℕ) → 0 < k → (numberOfVerdict (first lines) ≡ k) ↔ Lowest k lines
 given-exactly lines up k h = (there, back)
   where
-    there : number (first lines) ≡ k → Lowest k lines
+    there : numberOfVerdict (first lines) ≡ k → Lowest k lines
     there e = record {
       here = subst (λ (j : ℕ). holds j lines ≡ true) e (given-holds lines (first lines) refl (subst (λ (j : ℕ). 0 < j) (sym e) h));
       least = λ j t. subst (λ (n : ℕ). n ≤ j) e (first-lowest 0 lines up j t .1);
     }
 
-    back : Lowest k lines → number (first lines) ≡ k
+    back : Lowest k lines → numberOfVerdict (first lines) ≡ k
     back l =
         let low = first-lowest 0 lines up k (l .here) in
-        let high : k ≤ number (first lines) = l .least (number (first lines)) (given-holds lines (first lines) refl (low .0)) in
-        let most : number (first lines) ≤ k = low .1 in
+        let high : k ≤ numberOfVerdict (first lines) = l .least (numberOfVerdict (first lines)) (given-holds lines (first lines) refl (low .0)) in
+        let most : numberOfVerdict (first lines) ≤ k = low .1 in
         omega arith
 
 -- nothing is given exactly if no number holds
-pub nothing-exactly : (lines : List Line) → ascends 0 lines ≡ true → (number (first lines) ≡ 0) ↔ ((j : ℕ) → holds j lines ≡ false)
-unfolding number
+pub nothing-exactly : (lines : List Line) → ascends 0 lines ≡ true → (numberOfVerdict (first lines) ≡ 0) ↔ ((j : ℕ) → holds j lines ≡ false)
+unfolding numberOfVerdict
 nothing-exactly lines up = (there, back (first lines) refl)
   where
-    there : number (first lines) ≡ 0 → (j : ℕ) → holds j lines ≡ false
+    there : numberOfVerdict (first lines) ≡ 0 → (j : ℕ) → holds j lines ≡ false
     there e j = go (holds j lines) refl
       where
         go : (b : Bool) → holds j lines ≡ b → holds j lines ≡ false
-        go true t = absurd (let z : 0 < number (first lines) = first-lowest 0 lines up j t .0 in let w : ⊥ = omega arith in w)
+        go true t = absurd (let z : 0 < numberOfVerdict (first lines) = first-lowest 0 lines up j t .0 in let w : ⊥ = omega arith in w)
         go false t = t
 
-    back : (v : Verdict) → first lines ≡ v → ((j : ℕ) → holds j lines ≡ false) → number (first lines) ≡ 0
-    back Verdict.Clear e none = ap number e
+    back : (v : Verdict) → first lines ≡ v → ((j : ℕ) → holds j lines ≡ false) → numberOfVerdict (first lines) ≡ 0
+    back Verdict.Clear e none = ap numberOfVerdict e
     back (Verdict.Refused r) e none = absurd (let z : _≡_ {A = Bool} true false = sym (first-holds lines r e) ∙ none (numberOf r) in let w : _≡_ {A = ℕ} 0 1 = cc in let x : ⊥ = omega arith in x)
 
 -- ---- reading
@@ -70,11 +70,11 @@ unfolding ascends numberOf
 read-up s = refl
 
 module _ (s : List ℕ) where
-  pub read-exactly : (k : ℕ) → 0 < k → (number (readVerdict s) ≡ k) ↔ Lowest k (readLines s)
+  pub read-exactly : (k : ℕ) → 0 < k → (numberOfVerdict (readVerdict s) ≡ k) ↔ Lowest k (readLines s)
   unfolding readVerdict
   read-exactly = given-exactly (readLines s) (read-up s)
 
-  pub read-nothing : (number (readVerdict s) ≡ 0) ↔ ((j : ℕ) → holds j (readLines s) ≡ false)
+  pub read-nothing : (numberOfVerdict (readVerdict s) ≡ 0) ↔ ((j : ℕ) → holds j (readLines s) ≡ false)
   unfolding readVerdict
   read-nothing = nothing-exactly (readLines s) (read-up s)
 
@@ -109,17 +109,17 @@ write-up : (g : Graph) (m : Marking) (room : ℕ) → ascends 0 (writeLines g m 
 unfolding ascends numberOf
 write-up g m room = refl
 
-written-of : (v : Verdict) (size : ℕ) → numberOfWritten (writtenOf v size) ≡ number v
-unfolding numberOfWritten writtenOf number
+written-of : (v : Verdict) (size : ℕ) → numberOfWritten (writtenOf v size) ≡ numberOfVerdict v
+unfolding numberOfWritten writtenOf numberOfVerdict
 written-of Verdict.Clear size = refl
 written-of (Verdict.Refused r) size = refl
 
 module _ (g : Graph) (m : Marking) (room : ℕ) where
-  pub write-exactly : (k : ℕ) → 0 < k → (number (writeVerdict g m room) ≡ k) ↔ Lowest k (writeLines g m room)
+  pub write-exactly : (k : ℕ) → 0 < k → (numberOfVerdict (writeVerdict g m room) ≡ k) ↔ Lowest k (writeLines g m room)
   unfolding writeVerdict
   write-exactly = given-exactly (writeLines g m room) (write-up g m room)
 
-  pub write-nothing : (number (writeVerdict g m room) ≡ 0) ↔ ((j : ℕ) → holds j (writeLines g m room) ≡ false)
+  pub write-nothing : (numberOfVerdict (writeVerdict g m room) ≡ 0) ↔ ((j : ℕ) → holds j (writeLines g m room) ≡ false)
   unfolding writeVerdict
   write-nothing = nothing-exactly (writeLines g m room) (write-up g m room)
 
@@ -140,7 +140,7 @@ module _ (g : Graph) (m : Marking) (room : ℕ) where
   write-18 = or-false (ltb room (length (sheetBytes g m)))
 
   -- the number of the answer is the table's, and the length where nothing is against it is that of the sheet
-  pub written-number : numberOfWritten (theWritten g m room) ≡ number (writeVerdict g m room)
+  pub written-number : numberOfWritten (theWritten g m room) ≡ numberOfVerdict (writeVerdict g m room)
   written-number = written-of (writeVerdict g m room) (length (sheetBytes g m))
 
   pub written-length : writeVerdict g m room ≡ Verdict.Clear → lengthOfWritten (theWritten g m room) ≡ length (sheetBytes g m)

@@ -13,7 +13,7 @@ use Rattle.moves.specs.declared.Marking.{Marking}
 use Rattle.moves.specs.declared.Entry.{Entry}
 use Rattle.moves.specs.declared.Verdict.{Verdict}
 use Rattle.moves.specs.declared.Move.{Move}
-use Rattle.moves.specs.First.{first, number, numberOf}
+use Rattle.moves.specs.First.{first, numberOfVerdict, numberOf}
 use Rattle.rules.specs.Answers.{theMove, moveLines, entryLines, markingLines, known, rowOf, numberOfEnding, endingOf, theEnding}
 use Rattle.moves.specs.Move.{moveOf, rowLines, after, waitsFor, isFinished, markingFits, numberOfMove}
 use Rattle.moves.specs.Given.{ascends, holds, first-lowest, clear-head, clear-tail, clear-front, first-clear}
@@ -131,22 +131,22 @@ allowed-moved g m e r w =
 
 -- ---- the number is exactly the first of the table that holds
 
-of-number : (v : Verdict) (m next : Marking) → numberOfMove (moveOf v m next) ≡ number v
-unfolding numberOfMove moveOf number
+of-number : (v : Verdict) (m next : Marking) → numberOfMove (moveOf v m next) ≡ numberOfVerdict v
+unfolding numberOfMove moveOf numberOfVerdict
 of-number Verdict.Clear m next = refl
 of-number (Verdict.Refused r) m next = refl
 
-pub move-number : (g : Graph) (m : Marking) (e : Entry) → numberOfMove (theMove g m e) ≡ number (first (moveLines g m e))
+pub move-number : (g : Graph) (m : Marking) (e : Entry) → numberOfMove (theMove g m e) ≡ numberOfVerdict (first (moveLines g m e))
 unfolding theMove
 move-number g m e = of-number (first (moveLines g m e)) m (after (rowOf g (e .person) (e .step .0)) m (e .step .0))
 
-ending-of : (v : Verdict) (done : Bool) → numberOfEnding (endingOf v done) ≡ number v
-unfolding numberOfEnding endingOf number
+ending-of : (v : Verdict) (done : Bool) → numberOfEnding (endingOf v done) ≡ numberOfVerdict v
+unfolding numberOfEnding endingOf numberOfVerdict
 ending-of Verdict.Clear true = refl
 ending-of Verdict.Clear false = refl
 ending-of (Verdict.Refused r) done = refl
 
-pub ending-number : (g : Graph) (m : Marking) → numberOfEnding (theEnding g m) ≡ number (first (graphLines g ++ markingLines g m))
+pub ending-number : (g : Graph) (m : Marking) → numberOfEnding (theEnding g m) ≡ numberOfVerdict (first (graphLines g ++ markingLines g m))
 unfolding theEnding
 ending-number g m = ending-of (first (graphLines g ++ markingLines g m)) (isFinished m)
 

@@ -26,7 +26,7 @@ use Rattle.moves.specs.Inside.{Inside, fits-inside, inside-fits}
 use Rattle.rules.specs.Entries.{entry-back, entry-inside}
 use Rattle.journal.specs.declared.Ran.{Ran}
 use Rattle.journal.specs.Journal.{entries, lengthFits}
-use Rattle.journal.specs.Run.{goOn, runFrom, lengthLines, runLines, runOf, theRun, markingOfRun}
+use Rattle.journal.specs.Run.{goOn, runFrom, lengthLines, runLines, ranOf, theRun, markingOfRun}
 use Rattle.journal.specs.Laws.{fits-threes, fits-most, entries-append, run-graph, run-outside, run-clear}
 
 -- ---- one after the other
@@ -192,43 +192,43 @@ ready g m j e =
 -- a run that ends: all pass
 pub ended-passes : (g : Graph) (m m′ : Marking) (n : ℕ) (j : List ℕ) → theRun g m j ≡ Ran.Ended m′ n
     → Ready g m j × (n ≡ length (entries j)) × Passes g m (entries j) m′
-unfolding theRun runOf
+unfolding theRun ranOf
 ended-passes g m m′ n j e = go (first (runLines g m j)) refl
   where
     go : (v : Verdict) → first (runLines g m j) ≡ v → Ready g m j × (n ≡ length (entries j)) × Passes g m (entries j) m′
     go Verdict.Clear q =
-        let p = run-passes g m m′ 0 n (entries j) (ap (λ (v : Verdict). runOf v (runFrom g m 0 (entries j))) (sym q) ∙ e) in
+        let p = run-passes g m m′ 0 n (entries j) (ap (λ (v : Verdict). ranOf v (runFrom g m 0 (entries j))) (sym q) ∙ e) in
         let count : n ≡ 0 + length (entries j) = p .0 in
         (ready g m j q, let z : n ≡ length (entries j) = omega arith in z, p .1)
     go (Verdict.Refused r) q =
-        absurd (let s : Ran.Stopped 0 r noMarking ≡ Ran.Ended m′ n = ap (λ (v : Verdict). runOf v (runFrom g m 0 (entries j))) (sym q)
+        absurd (let s : Ran.Stopped 0 r noMarking ≡ Ran.Ended m′ n = ap (λ (v : Verdict). ranOf v (runFrom g m 0 (entries j))) (sym q)
         ∙ e in let z : _≡_ {A = ℕ} 0 1 = cc in let w : ⊥ = omega arith in w)
 
 -- a run that stops at an entry stops at the first not allowed
 pub stopped-first : (g : Graph) (m m′ : Marking) (n : ℕ) (r : Refusal) (j : List ℕ) → theRun g m j ≡ Ran.Stopped n r m′ → 11 ≤ numberOf r
     → Ready g m j × StopsAt g m (entries j) n r m′
-unfolding theRun runOf numbersBelow numberOf
+unfolding theRun ranOf numbersBelow numberOf
 stopped-first g m m′ n r j e high = go (first (runLines g m j)) refl
   where
     go : (v : Verdict) → first (runLines g m j) ≡ v → Ready g m j × StopsAt g m (entries j) n r m′
     go Verdict.Clear q =
         let known = ready g m j q in
         let s = run-stops g m m′ 0 n r (entries j) (known .clear) (fits-inside (g .steps) m (known .within))
-        (ap (λ (v : Verdict). runOf v (runFrom g m 0 (entries j))) (sym q) ∙ e) in
+        (ap (λ (v : Verdict). ranOf v (runFrom g m 0 (entries j))) (sym q) ∙ e) in
         let place : n ≡ 0 + s .0 = s .1 in
         (known, subst (λ (x : ℕ). StopsAt g m (entries j) x r m′) (let z : s .0 ≡ n = omega arith in z) (s .2))
     go (Verdict.Refused p) q =
-        let s : Ran.Stopped 0 p noMarking ≡ Ran.Stopped n r m′ = ap (λ (v : Verdict). runOf v (runFrom g m 0 (entries j))) (sym q) ∙ e in
+        let s : Ran.Stopped 0 p noMarking ≡ Ran.Stopped n r m′ = ap (λ (v : Verdict). ranOf v (runFrom g m 0 (entries j))) (sym q) ∙ e in
         let same : p ≡ r = cc in
         let low : numberOf r < 11 = subst (λ (x : Refusal). numberOf x < 11) same (first-below 11 (runLines g m j) p refl q) in
         absurd (let w : ⊥ = omega arith in w)
 
 -- the marking it leaves is within the graph
 pub left-within : (g : Graph) (m : Marking) (j : List ℕ) → Inside (g .steps) (markingOfRun (theRun g m j))
-unfolding theRun runOf markingOfRun
+unfolding theRun ranOf markingOfRun
 left-within g m j = go (first (runLines g m j)) refl
   where
-    go : (v : Verdict) → first (runLines g m j) ≡ v → Inside (g .steps) (markingOfRun (runOf v (runFrom g m 0 (entries j))))
+    go : (v : Verdict) → first (runLines g m j) ≡ v → Inside (g .steps) (markingOfRun (ranOf v (runFrom g m 0 (entries j))))
     go Verdict.Clear q =
         let known = ready g m j q in
         run-within g m 0 (entries j) (known .clear) (fits-inside (g .steps) m (known .within))

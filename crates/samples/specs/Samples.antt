@@ -17,7 +17,7 @@ use Rattle.folding.specs.Fold.{foldOf, entryRecord}
 use Rattle.folding.specs.Answers.{theFold}
 use Rattle.laps.specs.declared.Lapped.{Lapped}
 use Rattle.laps.specs.Laps.{LapAnswer}
-use Rattle.laps.specs.Decision.{goOn, legOn, upon, secondLap, firstLap, decision, lapOf, theLap}
+use Rattle.laps.specs.Decision.{goThrough, legOn, upon, secondLap, firstLap, decision, lapOf, theLap}
 use Rattle.laps.specs.Laws.{the-lap-right}
 use Rattle.tracker.specs.Tracker.{theStart, theStep, trackAfter, trackedOf}
 use Rattle.samples.specs.Job.{set, rows, targets, sources, table, given, job, start, entry, reboot, check, publish, rebooted}
@@ -76,12 +76,12 @@ samples =
 
 -- the laps of S12 are decided by computing, and the decision is right for the run without end
 starved : theLap job start [] (journal (reboot ∷ [])) ≡ Lapped.Starved (record { 0 = 1 })
-unfolding journal set rows targets sources table job first numberOf keeps setsFit has full scan lowest every goOn legOn upon secondLap
+unfolding journal set rows targets sources table job first numberOf keeps setsFit has full scan lowest every goThrough legOn upon secondLap
     firstLap decision lapOf theLap entryMove moveOf entries
 starved = refl
 
 accepted : theLap job start [] (journal (reboot ∷ check ∷ [])) ≡ Lapped.Accepted
-unfolding journal set rows targets sources table job first numberOf keeps setsFit has full scan lowest every goOn legOn upon secondLap
+unfolding journal set rows targets sources table job first numberOf keeps setsFit has full scan lowest every goThrough legOn upon secondLap
     firstLap decision lapOf theLap entryMove moveOf entries
 accepted = refl
 

@@ -20,13 +20,13 @@ abbrev pub flag : Bool → ℕ
 flag never = cond never 1 0
 
 -- "each 8 bytes, lowest byte first"
-unfoldable pub spelt : List ℕ → List ℕ
-spelt [] = []
-spelt (x ∷ xs) = bytes 8 x ++ spelt xs
+unfoldable pub setsSpelt : List ℕ → List ℕ
+setsSpelt [] = []
+setsSpelt (x ∷ xs) = bytes 8 x ++ setsSpelt xs
 
 -- "then the eight sets in the order above"
 unfoldable pub recordBytes : Record → List ℕ
-recordBytes r = bytes 1 (flag (r .never)) ++ spelt (setsOf r)
+recordBytes r = bytes 1 (flag (r .never)) ++ setsSpelt (setsOf r)
 
 -- the record that 65 bytes spell
 unfoldable pub recordAt : List ℕ → Record

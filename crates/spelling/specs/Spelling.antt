@@ -19,25 +19,25 @@ use Rattle.records.specs.declared.Record.{Record}
 use Rattle.records.specs.declared.Recorded.{Recorded}
 use Rattle.records.specs.Records.{setsOf, wellFormed}
 use Rattle.records.specs.WellFormed.{Bounded, well-formed}
-use Rattle.spelling.specs.Bytes.{flag, spelt, recordBytes, recordAt, readable, theReading}
+use Rattle.spelling.specs.Bytes.{flag, setsSpelt, recordBytes, recordAt, readable, theReading}
 use Rattle.records.specs.Answers.{recordedOf}
 use Rattle.records.specs.Answered.{counts-most}
 
 -- ---- writing, set by set
 
-pub spelt-none : (at : ℕ) (room : List ℕ) → Spliced (spelt []) at room room at
-unfolding spelt
+pub spelt-none : (at : ℕ) (room : List ℕ) → Spliced (setsSpelt []) at room room at
+unfolding setsSpelt
 spelt-none at room = record { next = omega arith; stored = refl }
 
 pub spelt-then : (x : ℕ) (xs : List ℕ) (at : ℕ) (old mid new : List ℕ) (r q : ℕ) → Spliced (bytes 8 x) at old mid r
-    → Spliced (spelt xs) r mid new q → Spliced (spelt (x ∷ xs)) at old new q
-unfolding spelt
-spelt-then x xs at old mid new r q a b = spliced-then (bytes 8 x) (spelt xs) at old mid new r q a b
+    → Spliced (setsSpelt xs) r mid new q → Spliced (setsSpelt (x ∷ xs)) at old new q
+unfolding setsSpelt
+spelt-then x xs at old mid new r q a b = spliced-then (bytes 8 x) (setsSpelt xs) at old mid new r q a b
 
-pub spelt-append : (xs ys : List ℕ) → spelt (xs ++ ys) ≡ spelt xs ++ spelt ys
-unfolding spelt
+pub spelt-append : (xs ys : List ℕ) → setsSpelt (xs ++ ys) ≡ setsSpelt xs ++ setsSpelt ys
+unfolding setsSpelt
 spelt-append [] ys = refl
-spelt-append (x ∷ xs) ys = ap (λ (l : List ℕ). bytes 8 x ++ l) (spelt-append xs ys) ∙ sym (append-assoc (bytes 8 x) (spelt xs) (spelt ys))
+spelt-append (x ∷ xs) ys = ap (λ (l : List ℕ). bytes 8 x ++ l) (spelt-append xs ys) ∙ sym (append-assoc (bytes 8 x) (setsSpelt xs) (setsSpelt ys))
 
 -- what is left of the room behind w bytes
 pub room-behind : (w x k at : ℕ) (old new : List ℕ) (r : ℕ) → Spliced (bytes w x) at old new r → at + (w + k) ≤ length old
@@ -48,21 +48,21 @@ room-behind w x k at old new r s h =
     let same : length new ≡ length old = spliced-length (bytes w x) at old new r s in
     omega arith
 
-length-spelt : (a b c d : ℕ) → length (spelt (a ∷ b ∷ c ∷ d ∷ [])) ≡ 32
-unfolding spelt bytes
+length-spelt : (a b c d : ℕ) → length (setsSpelt (a ∷ b ∷ c ∷ d ∷ [])) ≡ 32
+unfolding setsSpelt bytes
 length-spelt a b c d = refl
 
 -- behind four sets
-pub room-behind-four : (a b c d k at : ℕ) (old new : List ℕ) (r : ℕ) → Spliced (spelt (a ∷ b ∷ c ∷ d ∷ [])) at old new r
+pub room-behind-four : (a b c d k at : ℕ) (old new : List ℕ) (r : ℕ) → Spliced (setsSpelt (a ∷ b ∷ c ∷ d ∷ [])) at old new r
     → at + (32 + k) ≤ length old → r + k ≤ length new
 room-behind-four a b c d k at old new r s h =
-    let n : r ≡ at + length (spelt (a ∷ b ∷ c ∷ d ∷ [])) = s .next in
-    let l : length (spelt (a ∷ b ∷ c ∷ d ∷ [])) ≡ 32 = length-spelt a b c d in
-    let same : length new ≡ length old = spliced-length (spelt (a ∷ b ∷ c ∷ d ∷ [])) at old new r s in
+    let n : r ≡ at + length (setsSpelt (a ∷ b ∷ c ∷ d ∷ [])) = s .next in
+    let l : length (setsSpelt (a ∷ b ∷ c ∷ d ∷ [])) ≡ 32 = length-spelt a b c d in
+    let same : length new ≡ length old = spliced-length (setsSpelt (a ∷ b ∷ c ∷ d ∷ [])) at old new r s in
     omega arith
 
 pub length-record : (r : Record) → length (recordBytes r) ≡ 65
-unfolding recordBytes spelt bytes
+unfolding recordBytes setsSpelt bytes
 length-record r = refl
 
 -- never is 0 or 1
@@ -77,17 +77,17 @@ flag-low r = go (r .never)
 -- never, four sets and four sets from the start of the room on are the record's bytes, and the rest of the room
 pub spelt-record : (r : Record) (old one two new : List ℕ) (i j k : ℕ) → 65 ≤ length old
     → Spliced (bytes 1 (flag (r .never))) 0 old one i
-    → Spliced (spelt (r .needin ∷ r .needex ∷ r .needout ∷ r .done ∷ [])) i one two j
-    → Spliced (spelt (r .dueset ∷ r .dueclear ∷ r .inset ∷ r .inclear ∷ [])) j two new k
+    → Spliced (setsSpelt (r .needin ∷ r .needex ∷ r .needout ∷ r .done ∷ [])) i one two j
+    → Spliced (setsSpelt (r .dueset ∷ r .dueclear ∷ r .inset ∷ r .inclear ∷ [])) j two new k
     → new ≡ recordBytes r ++ drop 65 old
 unfolding recordBytes
 spelt-record r old one two new i j k h a b c =
     let front : List ℕ = r .needin ∷ r .needex ∷ r .needout ∷ r .done ∷ [] in
     let back : List ℕ = r .dueset ∷ r .dueclear ∷ r .inset ∷ r .inclear ∷ [] in
-    let both : Spliced (spelt (setsOf r)) i one new k =
+    let both : Spliced (setsSpelt (setsOf r)) i one new k =
     subst (λ (v : List ℕ). Spliced v i one new k) (sym (spelt-append front back))
-    (spliced-then (spelt front) (spelt back) i one two new j k b c) in
-    let all : Spliced (recordBytes r) 0 old new k = spliced-then (bytes 1 (flag (r .never))) (spelt (setsOf r)) 0 old one new i k a both in
+    (spliced-then (setsSpelt front) (setsSpelt back) i one two new j k b c) in
+    let all : Spliced (recordBytes r) 0 old new k = spliced-then (bytes 1 (flag (r .never))) (setsSpelt (setsOf r)) 0 old one new i k a both in
     let whole : 0 + length (recordBytes r) ≡ 65 = omega (arith, length-record r) in
     all .stored
     ∙ sets-eq (recordBytes r) old 0 (let z : 0 + length (recordBytes r) ≤ length old = omega arith in z)
@@ -97,7 +97,7 @@ spelt-record r old one two new i j k h a b c =
 
 -- the bytes that a byte or a set is read from are those it was spelt in
 pub read-written : (r : Record) → Bounded 64 r → recordAt (recordBytes r) ≡ r
-unfolding recordAt recordBytes spelt bytes number
+unfolding recordAt recordBytes setsSpelt bytes number
 read-written r b i =
     record {
       never = told (r .never) i;
@@ -149,8 +149,8 @@ sets-at (suc k) s = number 8 s ∷ sets-at k (drop 8 s)
 drop-bytes : (k : ℕ) (s : List ℕ) → Bytes s → Bytes (drop k s)
 drop-bytes k s h i = subst (λ (x : ℕ). x < 256) (sym (getD-drop k s i 0)) (h (k + i))
 
-spelt-sets : (k : ℕ) (s : List ℕ) → Bytes s → length s ≡ 8 * k → spelt (sets-at k s) ≡ s
-unfolding spelt
+spelt-sets : (k : ℕ) (s : List ℕ) → Bytes s → length s ≡ 8 * k → setsSpelt (sets-at k s) ≡ s
+unfolding setsSpelt
 spelt-sets zero s h l = sym (length-zero s (let z : length s ≡ 0 = omega arith in z))
   where
     length-zero : (s : List ℕ) → length s ≡ 0 → s ≡ []
@@ -175,7 +175,7 @@ written-read (b ∷ s) h l low =
     told (suc zero) l = refl
     told (suc (suc b)) l = absurd (let z : ⊥ = omega arith in z)
 
-    places : spelt (setsOf (recordAt (b ∷ s))) ≡ spelt (sets-at 8 s)
+    places : setsSpelt (setsOf (recordAt (b ∷ s))) ≡ setsSpelt (sets-at 8 s)
     places = simp drop-drop
 
 -- ---- the calls

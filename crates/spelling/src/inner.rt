@@ -4,7 +4,7 @@ ghost use Prim.Native.Nat.{_+_, _≤_};
 ghost use mathlib.Core.List.{[], _∷_, _++_};
 ghost use lib.ListN.{length, drop};
 ghost use Rattle.numbers.specs.Numbers.{Spliced};
-ghost use Rattle.spelling.specs.Bytes.{flag, spelt, recordAt, recordBytes};
+ghost use Rattle.spelling.specs.Bytes.{flag, setsSpelt, recordAt, recordBytes};
 use numbers::eight;
 use numbers::put;
 use records::Record;
@@ -36,7 +36,7 @@ fn one_if(never: bool) -> u64
 // Spells four sets from `at` on, and gives the place after them.
 fn spell_four(a: u64, b: u64, c: u64, d: u64, room: &mut [u8], at: usize) -> usize
     requires { ⌜ at + 32 ≤ length (now room) ⌝ }
-    ensures { λ r. ⌜ Spliced (spelt (a ∷ b ∷ c ∷ d ∷ [])) at (now (room .entry)) (now (room .exit)) r ⌝ }
+    ensures { λ r. ⌜ Spliced (setsSpelt (a ∷ b ∷ c ∷ d ∷ [])) at (now (room .entry)) (now (room .exit)) r ⌝ }
 {
     let i = put(a, 8, room, at);
     let j = put(b, 8, room, i);

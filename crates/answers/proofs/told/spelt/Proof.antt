@@ -1,7 +1,7 @@
 -- `spelt`: each arm is the definitions at its constructor. Assumes nothing.
 use mathlib.Core.Path.{refl}
 use borrow.Author.Needs.{needs}
-use Rattle.moves.specs.First.{number}
+use Rattle.moves.specs.First.{numberOfVerdict}
 use Rattle.answers.specs.Values.{lengthOfSpelling}
 use Rattle.answers.proofs.told.spelt.Statement.{statement}
 use Rattle.answers.proofs.told.spelt.Tie as tie
@@ -16,11 +16,11 @@ said-requires : tie.Need-said-requires
 said-requires c κs = search needs
 
 returns : tie.Need-returns
-unfolding number lengthOfSpelling
+unfolding numberOfVerdict lengthOfSpelling
 returns c = rw (c .enum-told .given .1) (refl, refl)
 
 returns-2 : tie.Need-returns-2
-unfolding number lengthOfSpelling
+unfolding numberOfVerdict lengthOfSpelling
 returns-2 c = rw (c .before .before .v .given .1) (c .said .ensures .0, refl)
 
 pub spelt-spec : {M : Type 1} → statement M

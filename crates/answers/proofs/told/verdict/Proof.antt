@@ -1,6 +1,6 @@
 -- `verdict`: each arm is the definition at its constructor. Assumes nothing.
 use borrow.Author.Needs.{needs}
-use Rattle.moves.specs.First.{number}
+use Rattle.moves.specs.First.{numberOfVerdict}
 use Rattle.answers.proofs.told.verdict.Statement.{statement}
 use Rattle.answers.proofs.told.verdict.Tie as tie
 
@@ -14,11 +14,11 @@ said-requires : tie.Need-said-requires
 said-requires c κs = search needs
 
 returns : tie.Need-returns
-unfolding number
+unfolding numberOfVerdict
 returns c = rw (c .enum-told .given .1)
 
 returns-2 : tie.Need-returns-2
-unfolding number
+unfolding numberOfVerdict
 returns-2 c = rw (c .before .before .v .given .1) (c .said .ensures .0)
 
 pub verdict-spec : {M : Type 1} → statement M

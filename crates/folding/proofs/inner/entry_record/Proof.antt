@@ -13,7 +13,7 @@ use Rattle.rules.specs.Answers.{known}
 use Rattle.moves.specs.Move.{personHolds, stepHas}
 use Rattle.tables.specs.Laws.{Counted}
 use Rattle.rules.specs.Laws.{clear-counts}
-use Rattle.folding.specs.Fold.{rowAt, stepRecord}
+use Rattle.folding.specs.Fold.{rowMet, stepRecord}
 use Rattle.folding.specs.Laws.{and-none, record-unknown, record-serves}
 use Rattle.folding.proofs.inner.entry_record.Statement.{statement}
 use Rattle.folding.proofs.inner.entry_record.Tie as tie
@@ -55,7 +55,7 @@ returns-4 : tie.Need-returns-4
 returns-4 c =
     let a = c .before .before .before .before .before .before .args in
     let g : Graph = graphOf (a .g .now) in
-    let serves : (personHolds (rowAt g (a .e)) (a .e) && stepHas (rowAt g (a .e)) (a .e)) ≡ false =
+    let serves : (personHolds (rowMet g (a .e)) (a .e) && stepHas (rowMet g (a .e)) (a .e)) ≡ false =
     ap (λ (w : Row). has (w .held) (a .e .role) && has (w .allows) (a .e .role)) (sym (c .before .before .row-at .ensures))
     ∙ sym (c .before .admits .ensures) ∙ not-true _ (c .if4 .taken) in
     sym (record-serves g (a .e) false (c .before .before .before .before .before .before .pre) serves)
@@ -67,7 +67,7 @@ returns-5 : tie.Need-returns-5
 returns-5 c =
     let a = c .before .before .before .before .before .before .before .args in
     let g : Graph = graphOf (a .g .now) in
-    let serves : (personHolds (rowAt g (a .e)) (a .e) && stepHas (rowAt g (a .e)) (a .e)) ≡ true =
+    let serves : (personHolds (rowMet g (a .e)) (a .e) && stepHas (rowMet g (a .e)) (a .e)) ≡ true =
     ap (λ (w : Row). has (w .held) (a .e .role) && has (w .allows) (a .e .role)) (sym (c .before .before .before .row-at .ensures))
     ∙ sym (c .before .before .admits .ensures) ∙ not-false _ (c .before .if4 .left) in
     c .step-record .ensures ∙ ap (λ (w : Row). stepRecord w (a .e .step .0)) (c .before .before .before .row-at .ensures)

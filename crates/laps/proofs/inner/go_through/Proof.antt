@@ -18,7 +18,7 @@ use Rattle.journal.specs.Journal.{entries, entryAt}
 use Rattle.journal.specs.Allowed.{Named, isAllowed, allowed-named, allowed-moved}
 use Rattle.journal.specs.Singles.{singles-all}
 use Rattle.laps.specs.declared.inner.Leg.{Leg}
-use Rattle.laps.specs.Decision.{still, goOn, legOn}
+use Rattle.laps.specs.Decision.{still, goThrough, legOn}
 use Rattle.laps.specs.Ways.{leg-moved, leg-stopped, leg-ended}
 use Rattle.laps.proofs.inner.go_through.Statement.{statement}
 use Rattle.laps.proofs.inner.go_through.Tie as tie
@@ -60,7 +60,7 @@ returns c =
     ap (isAllowed g (l .at)) (sym (c .before .before .before .before .entry-at .ensures)) ∙ sym (c .before .before .allowed .ensures)
     ∙ not-true _ (c .before .if1 .taken) in
     c .stopped .ensures
-    ∙ ap (λ (e : Entry). goOn (l .k) (entryMove g (l .at) e) (λ next. Leg.Ended next 0))
+    ∙ ap (λ (e : Entry). goThrough (l .k) (entryMove g (l .at) e) (λ next. Leg.Ended next 0))
     (c .before .before .before .before .entry-at .ensures)
     ∙ sym (l .inv .3 ∙ leg-stopped g (l .at) (l .left) j (l .k) room out)
 

@@ -3,7 +3,7 @@ use mathlib.Core.Path.{sym, ap, _∙_}
 use borrow.Author.Needs.{needs}
 use Rattle.moves.specs.declared.Move.{Move}
 use Rattle.laps.specs.declared.inner.Leg.{Leg}
-use Rattle.laps.specs.Decision.{goOn}
+use Rattle.laps.specs.Decision.{goThrough}
 use Rattle.laps.proofs.inner.stopped.Statement.{statement}
 use Rattle.laps.proofs.inner.stopped.Tie as tie
 
@@ -17,17 +17,17 @@ enum-known-r : tie.Need-enum-known-r
 enum-known-r c = search needs
 
 returns : tie.Need-returns
-unfolding goOn
+unfolding goThrough
 returns c =
     let a = c .before .before .before .before .args in
-    ap (λ (o : Move). goOn (a .index) o (λ next. Leg.Ended next 0))
+    ap (λ (o : Move). goThrough (a .index) o (λ next. Leg.Ended next 0))
     (sym (c .before .next .given .1) ∙ c .before .before .before .enter .ensures)
 
 returns-2 : tie.Need-returns-2
-unfolding goOn
+unfolding goThrough
 returns-2 c =
     let a = c .before .before .before .before .args in
-    ap (λ (o : Move). goOn (a .index) o (λ next. Leg.Ended next 0))
+    ap (λ (o : Move). goThrough (a .index) o (λ next. Leg.Ended next 0))
     (sym (c .before .r .given .1) ∙ c .before .before .before .enter .ensures)
 
 pub stopped-spec : {M : Type 1} → statement M
