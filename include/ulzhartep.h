@@ -82,7 +82,7 @@ static inline const char *ulz_text(uint64_t number) {
         "a set names something that the counts do not have",
         "an arrow of the sheet is wrong or out of order",
         "a step includes and excludes the same step",
-        "a journal of such a length cannot be",
+        "the bytes of the journal are no multiple of 3, or too many",
         "the marking has a step that the graph does not have",
         "no step has this rank",
         "the record is not well-formed",

@@ -1,5 +1,5 @@
 //! The procedure box a second time, twice: `model` decides what is right, `peer` is what the box is raced against.
-//! `data` holds what crosses the border, `cases` makes inputs, `sample` is the small sample job of document 01, `program` is the
+//! `data` holds what crosses the border, `cases` makes inputs, `sample` is the small sample job, `program` is the
 //! model as a program of its own, and `alike` sets two such programs side by side.
 
 #![forbid(unsafe_code)]

@@ -1,4 +1,4 @@
-//! The small sample job of document 01: 0 reboot, 1 order check, 2 publish.
+//! The small sample job: 0 reboot, 1 order check, 2 publish.
 
 use crate::data::{Entry, Graph, Marking};
 

@@ -1,5 +1,5 @@
 -- The paper's Definition 7, item by item as it is printed, with `ln` read as In. The events are the steps, E = {e₁, .., eₙ}, in the
--- order of their numbers. Nothing of document 01's tracker (Tracker.antt) is used here; Same.antt proves that the two are the same.
+-- order of their numbers. Nothing of the rule that the code follows (Tracker.antt) is used here; Same.antt proves that the two are the same.
 use Prim.Native.Nat.{ℕ, _≤_}
 use mathlib.Core.Path.{_≡_}
 use mathlib.Core.Bool.{Bool, false, _&&_, _||_, cond}
@@ -44,7 +44,7 @@ In M = M .included
 abbrev pub those : ℕ → (ℕ → Bool) → ℕ
 those n p = gather n (λ e. cond (p e) (single e) 0)
 
--- "min(E′) for the event in E′ with the minimal rank": there is none where E′ is empty
+-- min(E′): of the events in E′ the one of lowest rank; there is none where E′ is empty
 abbrev pub min : ℕ → ℕ → Option ℕ
 min n x = cond (empty x) none (some (lowest n x))
 
@@ -116,7 +116,7 @@ module _ (n : ℕ) (M′ M″ : Marking) (i e : ℕ) where
 pub record Transition (g : Graph) (entry : Entry) (from to : Track) : Type 0 where
   -- M′ = (Ex′, Re′, In′) and M″ = (Ex′ ∪ {e}, Re″, In″)
   pub i : Ex (to .marking) ≡ (Ex (from .marking) ∪ single (entry .step .0))
-  -- M′ —(e, (p, a, r))→ M″ is a transition of T(D)
+  -- M′ —(e, (p, a, r))→ M″
   pub ii : theMove g (from .marking) entry ≡ Move.Moved (to .marking)
   pub iii : to .flag ≡ j′ (g .steps) (from .marking) (to .marking) (from .rank .0) (entry .step .0)
   pub iv-v-vi : to .rank .0 ≡ i′ (g .steps) (from .marking) (to .marking) (from .rank .0) (entry .step .0)

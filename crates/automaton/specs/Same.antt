@@ -1,4 +1,4 @@
--- Document 01's tracker and the paper's Definition 7 are the same: from each state, each answers what the other says. Assumes nothing.
+-- The rule that the tracker follows and the paper's Definition 7 are the same: from each state, each answers what the other says. Assumes nothing.
 use Prim.Native.Nat.{ℕ, _+_, _^_, _<_, _≤_}
 use mathlib.Core.Path.{_≡_, refl, sym, ap, ap₂, _∙_}
 use mathlib.Core.Logic.{_↔_}
@@ -76,7 +76,7 @@ module _ (n p q e x : ℕ) (most : n ≤ 64) (small : x < 2 ^ n) (some-x : empty
 
 -- ---- the rule, over the due and included steps p before and q after
 
--- the flag and the rank by document 01, and by the paper's items (a), (b), (c)
+-- the flag and the rank by the rule, and by the paper's items (a), (b), (c)
 abbrev Agree : Bool → Bool → Bool → Bool → ℕ → ℕ → ℕ → ℕ → Type 0
 Agree met a b c x high low i = (cond met true a ≡ (a || b || c)) × (cond met x i ≡ cond b high (cond c low i))
 

@@ -1,5 +1,5 @@
--- What the tracker's answers are like: each state that it gives is a state of the graph, with the rank and the flag that document 01
--- names, and each number that it gives is the lowest that holds. Assumes nothing.
+-- What the tracker's answers are like: each state that it gives is a state of the graph, with the rank and the flag that the
+-- rule names, and each number that it gives is the lowest that holds. Assumes nothing.
 use Prim.Native.Nat.{ℕ, _+_, _^_, _<_, _≤_}
 use mathlib.Core.Path.{_≡_, refl, sym, ap, _∙_, subst}
 use mathlib.Core.List.{_++_}
@@ -31,7 +31,7 @@ use Rattle.tracker.specs.Laws.{clear-graph, clear-fits, rank-some, rank-most, r
 
 -- ---- start and idle move
 
--- at the start the rank is 1 and the flag is up exactly if the job is finished
+-- the first state has rank 1, and its flag says whether the job is finished
 pub start-is : (g : Graph) (m : Marking) (u : Track) → theStart g m ≡ Tracked.At u → (u .marking ≡ m) × (u .rank .0 ≡ 1)
     × (u .flag ≡ isFinished m)
 start-is g m u e =

@@ -108,7 +108,7 @@ pub fold-empty : (g : Graph) → graphVerdict g ≡ Verdict.Clear → theFold g 
 unfolding entries foldOf
 fold-empty g clear = fold-clear g [] clear refl
 
--- where both together are within the length limit, the record of one after the other is the join of their records
+-- two journals in a row, if they are not too long for one, fold to the join of their records
 pub fold-joins : (g : Graph) (a b : List ℕ) (p q : Record) → theFold g a ≡ Recorded.Made p → theFold g b ≡ Recorded.Made q
     → lengthFits (a ++ b) ≡ true
     → theFold g (a ++ b) ≡ theJoin (g .steps) p q

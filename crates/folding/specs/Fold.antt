@@ -1,4 +1,4 @@
--- Folding entries (document 01, "Folded records"): what one entry folds to, and a list of them.
+-- Folding entries: what one entry folds to, and a list of them.
 use Prim.Native.Nat.{ℕ}
 use mathlib.Core.List.{List, [], _∷_}
 use mathlib.Core.Bool.{Bool, false, _&&_, cond}
@@ -31,7 +31,7 @@ stepRecord w s =
       inclear = w .excludes;
     }
 
--- "An entry that no marking could allow: unknown number, role not held, role not on the step"
+-- some marking allows the entry: its numbers are known, its person has the role and so does its step
 abbrev pub possible : Graph → Entry → Bool
 possible g e = known g e && personHolds (rowMet g e) e && stepHas (rowMet g e) e
 
@@ -39,7 +39,7 @@ possible g e = known g e && personHolds (rowMet g e) e && stepHas (rowMet g e) e
 unfoldable pub entryRecord : Graph → Entry → Record
 entryRecord g e = cond (possible g e) (stepRecord (rowMet g e) (e .step .0)) impossible
 
--- The fold of a list of entries is the join over them. "The empty journal folds to the identity."
+-- the fold of a list of entries is the join over them; of none it is the identity
 unfoldable pub foldOf : Graph → List Entry → Record
 foldOf g [] = identity
 foldOf g (e ∷ rest) = join (tidy (entryRecord g e)) (foldOf g rest)

@@ -45,11 +45,11 @@ pub fn prescribe() -> Job {
     g[ALLOWS] = 1;
     g[ALLOWS + 1] = 2;
     g[ALLOWS + 2] = 1;
-    // "The prescribe medicine event must happen at least once before the sign event."
+    // Prescribe medicine is a condition of sign.
     g[CONDITIONS] = 4;
-    // "If the prescribe medicine event happen, subsequently at some point the sign event must happen", "similarly" give medicine.
+    // Sign and give medicine are responses of prescribe medicine.
     g[RESPONSES + 2] = 3;
-    // "The signature event must have happened before the medicine can be given."
+    // Sign is a condition of give medicine.
     g[CONDITIONS + 1] = 1;
     g
 }
@@ -58,19 +58,19 @@ pub fn prescribe() -> Job {
 pub fn check() -> Job {
     let mut g = prescribe();
     g[0] = 4;
-    // "The nurse have a choice to indicate distrust of prescription".
+    // It is the nurse who may say so.
     g[ALLOWS + 3] = 2;
     // In Fig. 5(a) don't trust is blocked until sign, "which enables give medicine and don't trust".
     g[CONDITIONS + 3] = 1;
-    // "And thereby exclude give medicine until the doctor execute sign again."
+    // Don't trust excludes give medicine.
     g[EXCLUDES + 3] = 2;
-    // "Executing don't trust action will make sign a pending response."
+    // Sign is a response of don't trust.
     g[RESPONSES + 3] = 1;
     // "Re-execute sign which will include give medicine". That sign also includes don't trust is a choice: give medicine excludes it, and
     // after a new prescription "it should be possible to indicate" distrust anew. In the runs of Fig. 5 don't trust is included
     // whenever sign is done, so that no state of them depends on it.
     g[INCLUDES] = 10;
-    // "Executing the give medicine event, excluding the don't trust event."
+    // Give medicine excludes don't trust.
     g[EXCLUDES + 1] = 8;
     g
 }

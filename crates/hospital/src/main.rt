@@ -55,8 +55,7 @@ fn act(g: &Job, m: Marking, s: u8) -> Marking {
     }
 }
 
-// "The nurse can give medicine many times, and the doctor can at any point choose to prescribe new medicine and sign again. (This will
-// not block the nurse from continue to give medicine.)"
+// Medicine is given several times, and a new prescription with its signature comes between without holding the nurse up.
 fn figure_3a(g: &Job) {
     say(b"Fig. 3(a)\nstart\n");
     say_marking(g, START_A);
@@ -70,10 +69,8 @@ fn figure_3a(g: &Job) {
     act(g, h, SIGN);
 }
 
-// "Starting in the initial state where all events except prescribe medicine is blocked. The second state is the result of executing
-// prescribe medicine, now showing that sign and give medicine are required as responses and that sign is no longer blocked. The third
-// state is the result of executing the sign event, which enables give medicine and don't trust. Finally, the fourth state is the result
-// of executing the give medicine event, excluding the don't trust event."
+// Four states: at first only prescribe medicine is free; after it sign and give medicine are due, and sign is free; after sign the other
+// two are free; after give medicine don't trust is out.
 fn figure_5a(g: &Job) {
     say(b"\nFig. 5(a)\nstart\n");
     say_marking(g, START_B);
@@ -82,10 +79,8 @@ fn figure_5a(g: &Job) {
     act(g, third, GIVE);
 }
 
-// "Six states of a run where the nurse executes don't trust in the third step, leading to a different fourth state where give medicine
-// is excluded (but still required as response if it gets included again) and sign is required as response. The fifth state shows the
-// result of the doctor executing sign, which re-includes give medicine, which is then executed, leading to the final state where all
-// events have been executed, and don't trust is excluded."
+// Six states: the third step is don't trust, after which give medicine is out and still due, and sign is due; sign lets give medicine in
+// again; at the end everything was done once and don't trust is out.
 fn figure_5b(g: &Job) {
     say(b"\nFig. 5(b)\nstart\n");
     say_marking(g, START_B);
@@ -116,9 +111,8 @@ fn track(g: &Job, t: Track, s: u8) -> Track {
     }
 }
 
-// "Both states have the two events s (having rank 1) and gm as pending responses. In state S7 only executing event s leads to an
-// accepting state (S10). The result of executing event gm is to move to state S9 which is not accepting. Dually, in state S11 only
-// executing event gm leads to an accepting state (S16). The result of executing event s is to move to state S12 which is not accepting."
+// In S7 and in S11 sign, of rank 1, and give medicine are both pending. From S7 sign leads to S10, whose flag is up, and give medicine to
+// S9, whose flag is down. From S11 it is the other way round: give medicine leads to S16 with the flag up, sign to S12 with the flag down.
 fn figure_6(g: &Job) {
     say(b"\nFig. 6\nstart");
     let o = tracker::start(g, START_A);

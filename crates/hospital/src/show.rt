@@ -18,7 +18,7 @@ pub fn say_name(s: u8) {
 }
 
 // What the icons of Fig. 5 say of a step: its box dashed if it is excluded, a tick if it has been done, a mark if it is due, and a
-// sign if "it is blocked by an included condition event that has not been executed".
+// sign if a condition of it is included and not done.
 fn say_step(conditions: u64, m: Marking, s: u8) {
     if 63 < s {
         return;

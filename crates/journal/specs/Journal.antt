@@ -10,7 +10,7 @@ use Rattle.moves.specs.declared.Entry.{Entry}
 abbrev pub entryOf : ℕ → ℕ → ℕ → Entry
 entryOf person step role = record { person = person; step = record { 0 = step }; role = role }
 
--- a journal is a run of 3-byte entries: person, step, role
+-- every three bytes of a journal are an entry: its person, its step, its role
 unfoldable pub entries : List ℕ → List Entry
 entries [] = []
 entries (person ∷ []) = []

@@ -19,8 +19,8 @@ unfoldable pub goOn : ℕ → Marking → Move → (Marking → Ran) → Ran
 goOn k m (Move.Moved next) rest = rest next
 goOn k m (Move.Refused r back) rest = Ran.Stopped k r m
 
--- running stops at the first entry not allowed, and answers that entry's index, its refusal, and the marking before it; if all pass,
--- the answer is the end marking and the number of entries. Here of the entries from entry k on, in marking m
+-- the entries are taken in turn until one is not allowed: its index, its refusal and the marking it met are the answer. Where none is refused,
+-- the last marking and the count of entries are. Here of the entries from entry k on, in marking m
 unfoldable pub runFrom : Graph → Marking → ℕ → List Entry → Ran
 runFrom g m k [] = Ran.Ended m k
 runFrom g m k (e ∷ rest) = goOn k m (theMove g m e) (λ next. runFrom g next (k + 1) rest)
@@ -44,7 +44,7 @@ ranOf (Verdict.Refused r) ran = Ran.Stopped 0 r noMarking
 unfoldable pub theRun : Graph → Marking → List ℕ → Ran
 theRun g m j = ranOf (first (runLines g m j)) (runFrom g m 0 (entries j))
 
--- ---- document 01's number and values of each case
+-- ---- number and values of each case
 
 -- 0 where all pass
 unfoldable pub numberOfRun : Ran → ℕ

@@ -24,11 +24,11 @@ unfoldable pub strideOf : ℕ → Verdict → Stride → Stride
 strideOf k Verdict.Clear s = s
 strideOf k (Verdict.Refused r) s = stays k (Walked.Refused r)
 
--- what a walk at place k says, and its next place. Over a journal of bad length each call gives 7
+-- what a walk at place k says, and its next place. Where the length does not fit, it is 7 at every place
 unfoldable pub strideAt : List ℕ → ℕ → Stride
 strideAt j k = strideOf k (first (lengthLines j)) (handOut k (drop k (entries j)))
 
--- ---- document 01's number and values of each case
+-- ---- number and values of each case
 
 -- 7, or 0 where the walk says what it finds
 unfoldable pub numberOfWalked : Walked → ℕ

@@ -1,4 +1,4 @@
-// The kept marking: the cabinet keeps one marking, and an allowed entry alters it where it lies. `keep` takes it by `&mut`.
+// The kept marking: a cabinet has one marking for good, which every allowed entry changes in place. `keep` takes it by `&mut`.
 ghost use mathlib.Core.Path.{_≡_};
 ghost use Rattle.rules.specs.Graph.{graphOf};
 ghost use Rattle.kept.specs.Keep.{theKept};

@@ -65,7 +65,7 @@ module _ (g : Graph) (m : Marking) (e : ℕ → Entry) where
     pub included : IncludedAt i s
     pub undone : DoneAt i s → ⊥
 
-  -- "from some point on is due, included, and neither done nor excluded"
+  -- from position p on step s waits at every position
   abbrev pub Starving : ℕ → Type 0
   Starving s = (p : ℕ) × ((i : ℕ) → p ≤ i → Waiting i s)
 

@@ -1,4 +1,4 @@
--- A stem and a lap: "the run is the stem, then the lap without end" (document 01, "Journals and laps").
+-- A stem and a lap: the stem is run once, and then the lap again and again, without end.
 use Prim.Native.Nat.{ℕ, _+_, _-_, _%_}
 use mathlib.Core.Path.{_≡_}
 use mathlib.Core.List.{List, [], _∷_, _++_}
@@ -28,14 +28,14 @@ endlessRun stem lap i = cond (ltb i (length stem)) (getD stem i (entryOf 0 0 0))
 unfoldable pub indexAt : List Entry → List Entry → ℕ → ℕ
 indexAt stem lap i = cond (ltb i (length stem)) i ((i - length stem) % length lap)
 
--- its pass: "0 stem, 1 first lap, 2 second, 3 any later one"
+-- its pass: 0 in the stem, 1 the first time round the lap, 2 the second, 3 later
 unfoldable pub passAt : List Entry → List Entry → ℕ → ℕ
 passAt stem lap i =
     cond (ltb i (length stem)) 0
     (cond (ltb i (length stem + length lap)) 1
     (cond (ltb i (length stem + length lap + length lap)) 2 3))
 
--- ---- document 01's number and values of each case
+-- ---- number and values of each case
 
 unfoldable pub numberOfPass : Pass → ℕ
 numberOfPass Pass.Stem = 0
@@ -91,8 +91,8 @@ pub record Stops (g : Graph) (m : Marking) (stem lap : List Entry) (k : ℕ) (p 
   pub index : k ≡ indexAt stem lap position
   pub pass : numberOfPass p ≡ passAt stem lap position
 
--- "The answer is a refusal with its index in the stem or lap and the pass; or accepted; or starved, with the lowest step that from some
--- point on is due, included, and neither done nor excluded." Before any entry is looked at, the table
+-- What is right to answer. Before any entry is looked at, the table. Then the earliest entry that is not allowed, by index and pass; or, where the run goes
+-- on for ever, accepted, or starved with the lowest step that starves
 unfoldable pub LapAnswer : Graph → Marking → List ℕ → List ℕ → Lapped → Type 0
 LapAnswer g m stem lap (Lapped.Refused r) = first (lapLines g m stem lap) ≡ Verdict.Refused r
 LapAnswer g m stem lap (Lapped.Stopped k p r) = (first (lapLines g m stem lap) ≡ Verdict.Clear)

@@ -1,5 +1,5 @@
--- Where the positions of stem, lap, lap, .. stand; that entries and markings come again from the second lap on; and so that a lap allowed
--- twice is allowed for ever. Assumes nothing.
+-- Where the positions of stem, lap, lap, .. stand; that entries and markings come again from the second lap on; and so that a lap
+-- which passes twice passes for ever. Assumes nothing.
 use Prim.Native.Nat.{ℕ, _+_, _-_, _%_, _≤_, _<_}
 use mathlib.Core.Path.{_≡_, refl, sym, ap, _∙_}
 use mathlib.Core.Logic.{_⊎_, inl, inr}

@@ -1,4 +1,4 @@
-// Refusals in the words of document 01's table "Numbers on the door".
+// Refusals in words: what each number says, understandable by itself on a screen.
 use crate::say::say;
 use crate::say::say_count;
 use crate::say::say_number;
@@ -7,33 +7,29 @@ use moves::Told;
 
 fn say_low_words(number: u8) {
     match number {
-        1 => say(
-            b"sheet under 29 bytes or over 37,077, byte 0 or contents not as above, body 1 not 3 or body 2 not 24 bytes, body 5 not a multiple of 3",
-        ),
-        2 => say(b"steps not 1..64, people or roles not 1..16"),
-        3 => say(b"body 3 or 4 does not match the counts"),
-        4 => say(
-            b"a set of the graph, or the sheet's marking (read or to be written), names something beyond the counts, or something is stored for a number beyond them",
-        ),
-        5 => say(b"an arrow has a kind above 3 or an unknown step, or the arrows do not ascend"),
-        6 => say(b"a pair both includes and excludes"),
-        7 => say(b"journal length not a multiple of 3, or over 65,535"),
-        8 => say(b"any other marking names a step beyond the graph"),
-        9 => say(b"tracker rank outside 1..n"),
-        _ => say(b"record not well-formed (or its bytes not 65, or never above 1)"),
+        1 => say(b"not laid out as a sheet"),
+        2 => say(b"a count is out of range"),
+        3 => say(b"the role sets of the sheet do not fit its counts"),
+        4 => say(b"a set names something that the counts do not have"),
+        5 => say(b"an arrow of the sheet is wrong or out of order"),
+        6 => say(b"a step includes and excludes the same step"),
+        7 => say(b"the bytes of the journal are no multiple of 3, or too many"),
+        8 => say(b"the marking has a step that the graph does not have"),
+        9 => say(b"no step has this rank"),
+        _ => say(b"the record is not well-formed"),
     }
 }
 
 fn say_high_words(number: u8) {
     match number {
-        11 => say(b"entry names an unknown person, step or role"),
-        12 => say(b"person does not hold the role"),
-        13 => say(b"step does not have the role"),
-        14 => say(b"step not included"),
-        15 => say(b"step waits; the lowest waiting condition is given"),
-        16 => say(b"record does not apply"),
-        17 => say(b"lap empty"),
-        _ => say(b"room for output too short"),
+        11 => say(b"no such person, step or role"),
+        12 => say(b"the person does not hold this role"),
+        13 => say(b"the step does not have this role"),
+        14 => say(b"the step is not included"),
+        15 => say(b"the step waits for another"),
+        16 => say(b"the record does not apply to the marking"),
+        17 => say(b"the lap is empty"),
+        _ => say(b"there is too little room"),
     }
 }
 

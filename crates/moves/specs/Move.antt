@@ -80,7 +80,7 @@ unfoldable pub moveOf : Verdict → Marking → Marking → Move
 moveOf Verdict.Clear before next = Move.Moved next
 moveOf (Verdict.Refused r) before next = Move.Refused r (cond (leb 11 (numberOf r)) before noMarking)
 
--- ---- document 01's number and values of each case
+-- ---- number and values of each case
 
 -- 0 where the step is taken
 unfoldable pub numberOfMove : Move → ℕ

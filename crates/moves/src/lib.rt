@@ -33,7 +33,7 @@ pub const NONE: Marking = Marking {
     included: 0,
 };
 
-// The refusals of the whole house, in the order of document 01's table.
+// The refusals of the whole house, in the order of their numbers.
 pub enum Refusal {
     Layout,
     Counts,

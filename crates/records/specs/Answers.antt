@@ -48,7 +48,7 @@ appliedOn r m = cond (applies r m) (Applied.Gives (gives r m)) (Applied.Refused 
 unfoldable pub theApplication : ℕ → Record → Marking → Applied
 theApplication n r m = appliedOf (first (applyLines n r m)) m (gives r m)
 
--- ---- document 01's number and values of each case: 0 where it is answered
+-- ---- number and values of each case: 0 where it is answered
 
 unfoldable pub numberOfRecorded : Recorded → ℕ
 numberOfRecorded (Recorded.Made r) = 0

@@ -1,4 +1,4 @@
--- Folded records: what one does, when it is well-formed, and the join (document 01, "Folded records").
+-- Folded records: what one does, when it is well-formed, and the join.
 use Prim.Native.Nat.{ℕ}
 use mathlib.Core.List.{List, [], _∷_}
 use mathlib.Core.Bool.{Bool, true, false, not, _&&_, _||_, cond}
@@ -9,7 +9,7 @@ use Rattle.records.specs.declared.Record.{Record}
 
 -- ---- what a record does
 
--- "It applies to a marking when never is off, NeedIn is within In, NeedEx is within Ex, and each step of NeedOutOrEx that is in In is in Ex."
+-- a record applies: never is off, what must be included is, what must be done is, and what must be excluded or done is done where it is included
 unfoldable pub applies : Record → Marking → Bool
 applies r m =
     not (r .never)
@@ -17,7 +17,7 @@ applies r m =
     && subset (r .needex) (m .done)
     && subset (meet (r .needout) (m .included)) (m .done)
 
--- "Then Ex gains Done, Re loses DueClear and gains DueSet, In loses InClear and gains InSet."
+-- what it makes of the marking: where steps are cleared and set, setting comes last
 abbrev pub gives : Record → Marking → Marking
 gives r m =
     record {
@@ -53,11 +53,11 @@ unfoldable pub each : (ℕ → Bool) → List ℕ → Bool
 each p [] = true
 each p (x ∷ xs) = p x && each p xs
 
--- "Sets only hold steps below n; no step is in two sets of any of these pairs; if never is on, all sets are empty."
+-- every set is within n, the sets of each pair have nothing in common, and beside never there is no step at all
 unfoldable pub wellFormed : ℕ → Record → Bool
 wellFormed n r = each (within n) (setsOf r) && each empty (clashes r) && (not (r .never) || each empty (setsOf r))
 
--- "Never off, all sets empty."
+-- what changes nothing: never off, and no step in any set
 abbrev pub identity : Record
 identity =
     record {
@@ -105,7 +105,7 @@ compose a b =
       inclear = union (a .inclear) (b .inclear);
     }
 
--- "A step both in NeedIn and found needing 'out or done' stands in NeedIn and NeedEx." Then no set says what another has said
+-- what must be included, and also excluded or done, must be done. Then no set says what another has said
 abbrev pub sorted : Record → Record
 sorted r =
     record {

@@ -55,7 +55,7 @@ endingOf (Verdict.Refused r) done = Ending.Refused r
 unfoldable pub theEnding : Graph → Marking → Ending
 theEnding g m = endingOf (first (graphLines g ++ markingLines g m)) (isFinished m)
 
--- ---- document 01's number and values of each case
+-- ---- number and values of each case
 
 -- 0 where the job is finished or not
 unfoldable pub numberOfEnding : Ending → ℕ

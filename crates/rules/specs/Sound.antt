@@ -18,7 +18,7 @@ use Rattle.rules.specs.Laws.{clear-counts}
 use Rattle.moves.specs.Given.{clear-head, clear-tail}
 use Rattle.moves.specs.Inside.{Inside}
 
--- a graph as document 01 has it
+-- what is so of a graph with nothing against it
 pub record Sound (g : Graph) : Type 0 where
   pub counted : Counted (g .steps) (g .people) (g .roles)
   pub rolesOf-in : (s : ℕ) → rolesOf g s < 2 ^ (g .roles)

@@ -1,4 +1,4 @@
-// The paper's Definitions 3 to 5 as document 01 reads them: graphs, and taking a step on one.
+// The paper's Definitions 3 to 5: graphs, and taking a step on one.
 ghost use mathlib.Core.Path.{_≡_};
 ghost use Rattle.rules.specs.Graph.{graphOf, graphVerdict};
 ghost use Rattle.rules.specs.Answers.{theMove, theEnding};
@@ -39,7 +39,7 @@ pub enum Ending {
     Refused(Refusal),
 }
 
-// Is this a graph as document 01 has it? Refusals 2, 4, 6.
+// Is this a graph? Refusals 2, 4, 6.
 pub fn check(g: &Job) -> Verdict
     ensures { λ r. ⌜ r ≡ graphVerdict (graphOf (now (g .entry))) ⌝ }
 {

@@ -1,4 +1,4 @@
--- "Sample job, small": document 01's graph and its start, and answers as the document writes them.
+-- The small sample job: its graph and its start, and answers as the samples have them.
 use Prim.Native.Nat.{ℕ, zero, suc}
 use mathlib.Core.List.{List, [], _∷_}
 use mathlib.Core.Bool.{Bool, false, _&&_, cond}

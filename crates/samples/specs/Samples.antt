@@ -1,4 +1,4 @@
--- Document 01's samples, as one statement over a list of them. Each is about the definitions that the calls promise. Assumes nothing.
+-- The samples S1 to S13, as one statement over a list of them. Each is about the definitions that the calls promise. Assumes nothing.
 use Prim.Native.Nat.{ℕ}
 use mathlib.Core.Path.{_≡_, refl, subst}
 use mathlib.Core.List.{List, [], _∷_}
@@ -23,7 +23,7 @@ use Rattle.tracker.specs.Tracker.{theStart, theStep, trackAfter, trackedOf}
 use Rattle.samples.specs.Job.{set, rows, targets, sources, table, given, job, start, entry, reboot, check, publish, rebooted}
 use Rattle.samples.specs.Job.{checked, at, tracking, journal, folded}
 
--- a sample: its number in document 01, and what it says
+-- a sample: its number, and what it says
 abbrev pub Sample : Type 1
 Sample = ℕ × Type 0
 
@@ -54,19 +54,19 @@ samples =
     ∷ (7, given (theMove job start (entry 2 0 0)) ≡ (11, 0, start))
     -- S8: fold of reboot: NeedIn {0}, Done {0}, DueSet {1}, DueClear {0}, InClear {2}
     ∷ (8, theFold job (journal (reboot ∷ [])) ≡ folded (0 ∷ []) [] [] (0 ∷ []) (1 ∷ []) (0 ∷ []) [] (2 ∷ []))
-    -- S9: fold of reboot, check: NeedIn {0,1}, Done {0,1}, DueClear {0,1}, InSet {2}
+    -- S9: reboot and check fold to NeedIn, Done and DueClear {0,1}, and InSet {2}
     ∷ (9, theFold job (journal (reboot ∷ check ∷ [])) ≡ folded (0 ∷ 1 ∷ []) [] [] (0 ∷ 1 ∷ []) [] (0 ∷ 1 ∷ []) (2 ∷ []) [])
     -- S10: fold of publish: NeedIn {2}, NeedOutOrEx {1}, Done {2}, DueClear {2}
     ∷ (10, theFold job (journal (publish ∷ [])) ≡ folded (2 ∷ []) [] (1 ∷ []) (2 ∷ []) [] (2 ∷ []) [] [])
     -- S11: fold of reboot, publish: never
     ∷ (11, theFold job (journal (reboot ∷ publish ∷ [])) ≡ Recorded.Made impossible)
-    -- S12: empty stem, lap of reboot alone: starved, step 1. Lap of reboot, check: accepted
+    -- S12: without a stem, reboot for ever starves step 1; reboot and check for ever are accepted
     ∷ (
       12,
       LapAnswer job start [] (journal (reboot ∷ [])) (Lapped.Starved (record { 0 = 1 }))
           × LapAnswer job start [] (journal (reboot ∷ check ∷ [])) Lapped.Accepted,
     )
-    -- S13: tracker from start, reboot: i 1, flag down; then check: i 2, flag up
+    -- S13: after reboot the tracker has rank 1 and its flag down, after check rank 2 and its flag up
     ∷ (
       13,
       (tracking job (theStart job start) reboot ≡ at rebooted 1 false)

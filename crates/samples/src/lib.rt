@@ -1,1 +1,1 @@
-// Document 01's sample job. There is nothing to call: the samples are a statement about the definitions, in specs/.
+// A small sample job. There is nothing to call: the samples are a statement about the definitions, in specs/.

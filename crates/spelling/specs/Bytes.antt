@@ -1,4 +1,4 @@
--- A record's bytes (document 01, "Folded records"), and what the calls that read and write them answer.
+-- A record's 65 bytes, and what the calls that read and write them answer.
 use Prim.Native.Nat.{ℕ}
 use mathlib.Core.Path.{_≡_}
 use mathlib.Core.List.{List, [], _∷_, _++_}
@@ -15,16 +15,16 @@ use Rattle.records.specs.declared.Recorded.{Recorded}
 use Rattle.records.specs.Records.{setsOf, wellFormed}
 use Rattle.records.specs.Answers.{recordedOf}
 
--- "One byte never (0 or 1)"
+-- the first byte is never, 0 or 1
 abbrev pub flag : Bool → ℕ
 flag never = cond never 1 0
 
--- "each 8 bytes, lowest byte first"
+-- sets of 8 bytes, the lowest byte first
 unfoldable pub setsSpelt : List ℕ → List ℕ
 setsSpelt [] = []
 setsSpelt (x ∷ xs) = bytes 8 x ++ setsSpelt xs
 
--- "then the eight sets in the order above"
+-- never, and then the eight sets
 unfoldable pub recordBytes : Record → List ℕ
 recordBytes r = bytes 1 (flag (r .never)) ++ setsSpelt (setsOf r)
 

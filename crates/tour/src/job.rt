@@ -1,4 +1,4 @@
-// The small sample job of document 01: after a reboot the order of the sensors is checked before anything is published.
+// The small sample job: after a reboot the order of the sensors is checked before anything is published.
 //
 // Steps: 0 reboot, 1 order check, 2 publish. Roles: 0 climber, 1 desk. Person 0 is a climber, person 1 sits at the desk.
 use lines::say::say;

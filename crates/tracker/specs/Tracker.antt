@@ -1,4 +1,4 @@
--- The tracker (Definition 7), as document 01 says it. A state is a marking, a rank i in 1..n, and a flag.
+-- The tracker (Definition 7), as a rule that is quick to follow. A state is a marking, a rank i and a flag.
 use Prim.Native.Nat.{ℕ}
 use mathlib.Core.List.{List, [], _∷_, _++_}
 use mathlib.Core.Bool.{Bool, true, not, _&&_, _||_, cond}
@@ -16,43 +16,43 @@ use Rattle.rules.specs.Answers.{rowOf, markingLines, entryLines}
 use Rattle.tracker.specs.declared.Track.{Track}
 use Rattle.tracker.specs.declared.Tracked.{Tracked}
 
--- "A rank i in 1..n."
+-- a rank is one of 1, 2, .., n
 abbrev pub isRank : ℕ → ℕ → Bool
 isRank n i = within1to i n
 
 -- ---- start and idle move
 
--- "At the start i is 1 and the flag is up exactly if the job is finished."
+-- the first state has rank 1, and its flag says whether the job is finished
 abbrev pub begin : Marking → Track
 begin m = record { marking = m; rank = record { 0 = 1 }; flag = isFinished m }
 
--- "An idle move keeps marking and i, and sets the flag by the finished test."
+-- nothing is done: marking and rank stay, and the flag says whether the job is finished
 abbrev pub rest : Track → Track
 rest t = record { marking = t .marking; rank = t .rank; flag = isFinished (t .marking) }
 
 -- ---- a step e
 
--- P and P″: "the steps due and included" before and after
+-- P and P″: the steps that are pending, before the step and after it
 abbrev pub pending : Marking → ℕ
 pending m = meet (m .due) (m .included)
 
--- H: "those of P with rank above i". The steps of rank at most i are the i steps below number i
+-- H: the steps of P whose rank lies above i. The steps of rank at most i are the i steps below number i
 abbrev pub above : ℕ → ℕ → ℕ
 above i P = minus P (full i)
 
--- "Let x be the lowest of H, or if H is empty the lowest of P": x is the lowest of these, and exists exactly if there are any
+-- H, or P where H has no step. Their lowest is x, the step whose turn it is; there is none where both are empty
 abbrev pub pool : ℕ → ℕ → ℕ
 pool i P = cond (empty (above i P)) P (above i P)
 
--- "x is e or is not in P″"
+-- x was seen to: it is the step that was done, or it is pending no more
 abbrev pub meets : ℕ → ℕ → ℕ → Bool
 meets x e P″ = eqb x e || not (has P″ x)
 
--- "x exists and x is e or is not in P″"
+-- there is an x, and it was seen to
 abbrev pub served : ℕ → ℕ → ℕ → ℕ → Bool
 served i P P″ e = not (empty (pool i P)) && meets (lowest 64 (pool i P)) e P″
 
--- "then i becomes x's rank and the flag is up. Otherwise i stays and the flag is up exactly if P″ is empty."
+-- if so, the rank is that of x and the flag is up; if not, the rank stays, and the flag says whether nothing is pending any more
 unfoldable pub trackAfter : Track → Marking → ℕ → Track
 trackAfter t next e =
     let i = t .rank .0 in
@@ -99,7 +99,7 @@ unfoldable pub theStep : Graph → Track → Entry → Tracked
 theStep g t e =
     trackedOf (first (stepLines g t e)) t (trackAfter t (after (rowOf g (e .person) (e .step .0)) (t .marking) (e .step .0)) (e .step .0))
 
--- ---- document 01's number and values of each case
+-- ---- number and values of each case
 
 -- 0 where there is a state after
 unfoldable pub numberOfTracked : Tracked → ℕ

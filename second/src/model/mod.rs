@@ -1,4 +1,4 @@
-//! The independent program, written from document 01 in plain sets and lists of pairs. It is slow on purpose: each rule stands
+//! The independent program, written from the rules alone in plain sets and lists of pairs. It is slow on purpose: each rule stands
 //! there as the document has it, and nothing is clever. Where it and another body differ, it is right.
 //!
 //! A call takes the model's own graph, so that one is read once for many calls, and otherwise what the border takes. It answers

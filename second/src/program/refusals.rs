@@ -1,25 +1,23 @@
-/// Document 01, "Numbers on the door".
+/// The eighteen numbers in words, the first for 1.
 const WORDS: [&str; 18] = [
-    "sheet under 29 bytes or over 37,077, byte 0 or contents not as above, body 1 not 3 or body 2 not 24 bytes, body 5 not a \
-     multiple of 3",
-    "steps not 1..64, people or roles not 1..16",
-    "body 3 or 4 does not match the counts",
-    "a set of the graph, or the sheet's marking (read or to be written), names something beyond the counts, or something is \
-     stored for a number beyond them",
-    "an arrow has a kind above 3 or an unknown step, or the arrows do not ascend",
-    "a pair both includes and excludes",
-    "journal length not a multiple of 3, or over 65,535",
-    "any other marking names a step beyond the graph",
-    "tracker rank outside 1..n",
-    "record not well-formed (or its bytes not 65, or never above 1)",
-    "entry names an unknown person, step or role",
-    "person does not hold the role",
-    "step does not have the role",
-    "step not included",
-    "step waits; the lowest waiting condition is given",
-    "record does not apply",
-    "lap empty",
-    "room for output too short",
+    "not laid out as a sheet",
+    "a count is out of range",
+    "the role sets of the sheet do not fit its counts",
+    "a set names something that the counts do not have",
+    "an arrow of the sheet is wrong or out of order",
+    "a step includes and excludes the same step",
+    "the bytes of the journal are no multiple of 3, or too many",
+    "the marking has a step that the graph does not have",
+    "no step has this rank",
+    "the record is not well-formed",
+    "no such person, step or role",
+    "the person does not hold this role",
+    "the step does not have this role",
+    "the step is not included",
+    "the step waits for another",
+    "the record does not apply to the marking",
+    "the lap is empty",
+    "there is too little room",
 ];
 
 /// What a number means, from 1.

@@ -1,4 +1,4 @@
-//! What both bodies must do: S1 to S13 of document 01, the slips it lists, and the same answers as each other.
+//! What both bodies must do: the samples S1 to S13, the slips that were made before, and the same answers as each other.
 
 mod journals;
 mod laps;

@@ -56,14 +56,14 @@ impl Drop for Folder {
 fn the_accident() {
     let folder = Folder::new("accident");
     let rebooted = ["done: 0", "due: 1", "included: 0 1"];
-    let at = |entry| [&["refused: 14 step not included", entry], &rebooted[..]].concat();
+    let at = |entry| [&["refused: 14 the step is not included", entry], &rebooted[..]].concat();
     folder.told("run job.sheet late", 1, &at("entry 1: person 1, step 2, role 1"));
     assert_eq!(folder.call("fold job.sheet reboot record").status, 0);
     folder.told("restore job.sheet record late out", 1, &at("entry 1: person 1, step 2, role 1"));
     let checked = ["entries: 1", "done: 0 1", "due: none", "included: 0 1 2", "finished: yes"];
     folder.told("restore job.sheet record check", 0, &checked);
     folder.told("lap job.sheet check reboot", 0, &["verdict: starved", "starved step: 1"]);
-    let pass = ["refused: 14 step not included", "pass: 1, first lap", "entry 1: person 1, step 2, role 1"];
+    let pass = ["refused: 14 the step is not included", "pass: 1, first lap", "entry 1: person 1, step 2, role 1"];
     folder.told("lap job.sheet check late", 1, &pass);
 }
 
@@ -80,7 +80,7 @@ fn files_and_wrong_use() {
     }
     folder.told("apply 3 reboot late", 2, &[]);
     folder.put("marking", &[0; 24]);
-    folder.told("apply 256 reboot marking", 1, &["refused: 2 steps not 1..64, people or roles not 1..16"]);
+    folder.told("apply 256 reboot marking", 1, &["refused: 2 a count is out of range"]);
     folder.told("apply -1 reboot marking", 2, &[]);
 }
 
