@@ -31,8 +31,12 @@ fn longer(record: &Record, g: &Graph, e: Entry) -> Option<Record> {
     if u64::from(e.person) >= g.people || u64::from(e.step) >= g.steps || u64::from(e.role) >= g.roles {
         return None;
     }
-    let (step, this) = (usize::from(e.step), 1u64 << e.step);
-    if (g.holds[usize::from(e.person)] & g.allows[step]) >> e.role & 1 == 0 || record.in_clear & this != 0 {
+    let step = usize::from(e.step);
+    if g.holds[usize::from(e.person)] & g.allows[step] & (1 << e.role) == 0 {
+        return None;
+    }
+    let this = 1u64 << e.step;
+    if record.in_clear & this != 0 {
         return None;
     }
     let open = g.conditions[step] & !(record.in_clear | record.done | record.need_ex);
