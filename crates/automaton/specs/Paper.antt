@@ -5,41 +5,20 @@ use mathlib.Core.Path.{_≡_}
 use mathlib.Core.Bool.{Bool, false, _&&_, _||_, cond}
 use mathlib.Core.Option.{Option, none, some}
 use lib.Dec.{ltb}
-use Rattle.sets.specs.Sets.{has, single, union, meet, minus, empty, lowest, gather}
+use Rattle.sets.specs.Sets.{has, single, empty, lowest, gather}
 use Rattle.rules.specs.Graph.{Graph}
 use Rattle.moves.specs.declared.Marking.{Marking}
 use Rattle.moves.specs.declared.Entry.{Entry}
 use Rattle.moves.specs.declared.Move.{Move}
 use Rattle.rules.specs.Answers.{theMove}
+use Rattle.rules.specs.Signs.{_∩_, _∖_, _∪_, Ex, Re, In}
 use Rattle.moves.specs.Inside.{Inside}
 use Rattle.moves.specs.Move.{rankOf}
 use Rattle.tracker.specs.declared.Track.{Track}
 
 -- ---- the paper's signs
 
-infixl 70 _∩_
-infixl 66 _∖_
-infixl 65 _∪_
 infix 50 _∈_
-abbrev pub _∩_ : ℕ → ℕ → ℕ
-a ∩ b = meet a b
-
-abbrev pub _∖_ : ℕ → ℕ → ℕ
-a ∖ b = minus a b
-
-abbrev pub _∪_ : ℕ → ℕ → ℕ
-a ∪ b = union a b
-
--- M = (Ex, Re, In)
-abbrev pub Ex : Marking → ℕ
-Ex M = M .done
-
-abbrev pub Re : Marking → ℕ
-Re M = M .due
-
-abbrev pub In : Marking → ℕ
-In M = M .included
-
 -- {e ∈ E | p e}, of the n events
 abbrev pub those : ℕ → (ℕ → Bool) → ℕ
 those n p = gather n (λ e. cond (p e) (single e) 0)

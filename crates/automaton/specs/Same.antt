@@ -23,8 +23,7 @@ use Rattle.moves.specs.Inside.{Inside, inside-fits}
 use Rattle.rules.specs.Entries.{moved-after}
 use Rattle.tracker.specs.declared.Track.{Track}
 use Rattle.tracker.specs.declared.Tracked.{Tracked}
-use Rattle.tracker.specs.Tracker.{isRank, begin, rest, pending, above, pool, meets, served, trackAfter, startLines, theStart, theIdle}
-use Rattle.tracker.specs.Tracker.{theStep}
+use Rattle.tracker.specs.Tracker.{isRank, begin, rest, pending, above, pool, meets, served, trackAfter, startLines, theStart, theIdle, theStep}
 use Rattle.automaton.specs.Paper.{State, Initial, Tau, Transition, those, min, _∈_, rankOfMin, j′, i′}
 use Rattle.tracker.specs.Laws.{above-members, sound-inside, start-clear, idle-clear, idle-at, Stepped, step-at, at-step, rank-is}
 use Rattle.automaton.specs.States.{start-is}

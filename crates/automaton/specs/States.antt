@@ -24,8 +24,7 @@ use Rattle.rules.specs.Sound.{Sound, clear-sound, after-inside}
 use Rattle.rules.specs.Entries.{moved-clear, moved-after}
 use Rattle.tracker.specs.declared.Track.{Track}
 use Rattle.tracker.specs.declared.Tracked.{Tracked}
-use Rattle.tracker.specs.Tracker.{pending, above, pool, meets, served, begin, rest, startLines, idleLines, stepLines, trackedOf, theStart}
-use Rattle.tracker.specs.Tracker.{theIdle, theStep, numberOfTracked, stepOfTracked}
+use Rattle.tracker.specs.Tracker.{pending, above, pool, meets, served, begin, rest, startLines, idleLines, stepLines, trackedOf, theStart, theIdle, theStep, numberOfTracked, stepOfTracked}
 use Rattle.automaton.specs.Paper.{State}
 use Rattle.tracker.specs.Laws.{clear-graph, clear-fits, rank-some, rank-most, rank-is, start-at, Idled, idle-at, Stepped, step-at}
 

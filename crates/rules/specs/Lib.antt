@@ -4,4 +4,5 @@ pub mod Laws
 pub mod Block
 pub mod Sound
 pub mod Entries
+pub mod Signs
 pub mod Paper

@@ -17,37 +17,38 @@ use Rattle.moves.specs.First.{first, numberOfVerdict, numberOf}
 use Rattle.rules.specs.Answers.{theMove, moveLines, entryLines, markingLines, known, rowOf, numberOfEnding, endingOf, theEnding}
 use Rattle.moves.specs.Move.{moveOf, rowLines, after, waitsFor, isFinished, markingFits, numberOfMove}
 use Rattle.moves.specs.Given.{ascends, holds, first-lowest, clear-head, clear-tail, clear-front, first-clear}
+use Rattle.rules.specs.Signs.{_∩_, _∖_, _∪_, _∈_, Ex, Re, In}
 use Rattle.rules.specs.Entries.{moved-clear, moved-after}
 
 -- ---- Definition 3: the relations
 
 -- (iv) a →• b
 abbrev pub condition : Graph → ℕ → ℕ → Bool
-condition g a b = has (conditionsOf g b) a
+condition g a b = a ∈ conditionsOf g b
 
 -- (v) a •→ b
 abbrev pub response : Graph → ℕ → ℕ → Bool
-response g a b = has (responsesOf g a) b
+response g a b = b ∈ responsesOf g a
 
 -- (vi) a →+ b
 abbrev pub includes : Graph → ℕ → ℕ → Bool
-includes g a b = has (includesOf g a) b
+includes g a b = b ∈ includesOf g a
 
 -- (vi) a →% b
 abbrev pub excludes : Graph → ℕ → ℕ → Bool
-excludes g a b = has (excludesOf g a) b
+excludes g a b = b ∈ excludesOf g a
 
 -- ---- Definitions 4 and 5: when person p may take step e in role r
 
 pub record Allowed (g : Graph) (m : Marking) (e : Entry) : Type 0 where
   -- p as r
-  pub person-as : has (rolesHeld g (e .person)) (e .role) ≡ true
+  pub person-as : (e .role ∈ rolesHeld g (e .person)) ≡ true
   -- a as r
-  pub action-as : has (rolesOf g (e .step .0)) (e .role) ≡ true
+  pub action-as : (e .role ∈ rolesOf g (e .step .0)) ≡ true
   -- (iii) e ∈ In'
-  pub included : has (m .included) (e .step .0) ≡ true
+  pub included : (e .step .0 ∈ In m) ≡ true
   -- (iv) {e' ∈ In' | e' →• e} ⊆ Ex'
-  pub conditions : (a : ℕ) → has (m .included) a ≡ true → condition g a (e .step .0) ≡ true → has (m .done) a ≡ true
+  pub conditions : (a : ℕ) → (a ∈ In m) ≡ true → condition g a (e .step .0) ≡ true → (a ∈ Ex m) ≡ true
 
 three : (p q r : Bool) → ((p && q) && not r) ≡ false → q ≡ true → p ≡ true → r ≡ true
 three true true true e f h = refl
@@ -159,7 +160,26 @@ pub move-lowest : (g : Graph) (m : Marking) (e : Entry) (k : ℕ) → holds k (m
     → (0 < numberOfMove (theMove g m e)) × (numberOfMove (theMove g m e) ≤ k)
 move-lowest g m e k h = rw move-number (first-lowest 0 (moveLines g m e) (move-ascends g m e) k h)
 
--- ---- Definition 4 (ii), (v), (vi), set by set
+-- ---- Definition 4 (ii), (v), (vi), as printed: the marking after step e
+
+module _ (g : Graph) (m : Marking) (p e : ℕ) where
+  -- Ex″ = Ex′ ∪ {e}
+  pub item-ii : Ex (after (rowOf g p e) m e) ≡ (Ex m ∪ single e)
+  item-ii = refl
+
+  -- In″ = (In′ ∪ {e′ | e →+ e′}) ∖ {e′ | e →% e′}
+  pub item-v : In (after (rowOf g p e) m e) ≡ ((In m ∪ includesOf g e) ∖ excludesOf g e)
+  item-v = refl
+
+  -- Re″ = (Re′ ∖ {e}) ∪ {e′ | e •→ e′}
+  pub item-vi : Re (after (rowOf g p e) m e) ≡ ((Re m ∖ single e) ∪ responsesOf g e)
+  item-vi = refl
+
+-- finished: Re ∩ In = ∅
+pub item-finished : (m : Marking) → isFinished m ≡ empty (Re m ∩ In m)
+item-finished m = refl
+
+-- ---- the same, step by step
 
 -- Ex'' = Ex' ∪ {e}
 pub after-done : (g : Graph) (m : Marking) (p e s : ℕ) → has (after (rowOf g p e) m e .done) s ≡ (has (m .done) s || eqb e s)
