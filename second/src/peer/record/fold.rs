@@ -3,7 +3,9 @@ use crate::data::{Entry, Graph, Record};
 use crate::peer::{
     check::well_formed,
     journal::{entries, entry},
-    number, Refusal,
+    number,
+    take::known,
+    Refusal,
 };
 
 /// Writes the journal's record.
@@ -28,15 +30,8 @@ fn folded(g: &Graph, journal: &[u8]) -> Result<Record, Refusal> {
 /// With one entry more, unless none can follow here. Tidied once for all at the end.
 #[inline]
 fn longer(record: &Record, g: &Graph, e: Entry) -> Option<Record> {
-    if u64::from(e.person) >= g.people || u64::from(e.step) >= g.steps || u64::from(e.role) >= g.roles {
-        return None;
-    }
-    let step = usize::from(e.step);
-    if g.holds[usize::from(e.person)] & g.allows[step] & (1 << e.role) == 0 {
-        return None;
-    }
-    let this = 1u64 << e.step;
-    if record.in_clear & this != 0 {
+    let (step, this, role) = (usize::from(e.step), 1u64 << e.step, 1u64 << e.role);
+    if !known(g, e) || g.holds[usize::from(e.person)] & g.allows[step] & role == 0 || record.in_clear & this != 0 {
         return None;
     }
     let open = g.conditions[step] & !(record.in_clear | record.done | record.need_ex);
