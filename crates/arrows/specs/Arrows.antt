@@ -96,12 +96,6 @@ listed (suc k) s f = keptIf (f s) s (listed k (suc s) f)
 unfoldable pub arrowsOf : (ℕ → ℕ) → List Arrow
 arrowsOf rows = map arrowAt (listed 16384 0 (λ p. held rows (arrowAt p)))
 
--- the rows of four tables of 64, one after the other
-unfoldable pub pick : {A : Type 0} → ℕ → A → A → A → A → A
-pick zero a b c d = a
-pick (suc zero) a b c d = b
-pick (suc (suc zero)) a b c d = c
-pick (suc (suc (suc k))) a b c d = d
-
-abbrev pub fourTables : List ℕ → List ℕ → List ℕ → List ℕ → ℕ → ℕ
-fourTables conditions responses includes excludes i = row (pick (i / 64) conditions responses includes excludes) (i % 64)
+-- and the bytes that spell them: body 5 of a sheet
+abbrev pub arrowsBody : List ℕ → List ℕ
+arrowsBody table = spelt (arrowsOf (row table))

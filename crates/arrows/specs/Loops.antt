@@ -13,11 +13,13 @@ use Rattle.sets.specs.Truth.{and-left, and-right}
 use Rattle.tables.specs.Tables.{row}
 use Rattle.numbers.specs.Numbers.{Spliced}
 use Rattle.numbers.specs.Laws.{spliced-then}
-use Rattle.arrows.specs.Arrows.{Arrow, arrowsIn, known, arrowsFit, put, putAll, place, spelt}
+use Rattle.tables.specs.Laws.{rows-at}
+use Rattle.arrows.specs.Arrows.{Arrow, arrowsIn, known, arrowsFit, put, putAll, place, spelt, arrowsBody}
 use Rattle.sets.specs.Later.{later, later-minus}
 use Rattle.arrows.specs.Lists.{listed-length}
 use Rattle.arrows.specs.Places.{fitFrom, fit-places, length-spelt, spelt-append}
 use Rattle.arrows.specs.Rows.{members, members-none, members-more, toward, rowArrows, kindArrows, countOf, count-arrows}
+use Rattle.arrows.specs.Rows.{kindRows, Kept, turnedIn, length-turned, fromRows, firstKinds, countKinds, count-kinds, by-kind}
 
 -- ---- reading
 
@@ -165,6 +167,79 @@ count-most (suc a) rows =
     let r : countOf a rows ≤ 64 * a = count-most a rows in
     let l : length (members (rows a)) ≤ 64 = listed-length 64 0 (has (rows a)) in
     omega arith
+
+-- ---- kind after kind
+
+-- the rows that no turning concerns
+pub from-other : (conditions table : List ℕ) (kind : ℕ) → (kind ≡ 0 → ⊥) → fromRows conditions table kind ≡ kindRows table kind
+unfolding fromRows
+from-other conditions table zero some = absurd (some refl)
+from-other conditions table (suc kind) some = refl
+
+pub length-kinds : (kinds n : ℕ) (conditions table : List ℕ)
+    → length (spelt (firstKinds kinds n conditions table)) ≡ 3 * countKinds kinds n conditions table
+length-kinds kinds n conditions table =
+    length-spelt (firstKinds kinds n conditions table) ∙ ap (λ (m : ℕ). 3 * m) (count-kinds kinds n conditions table)
+
+-- one kind more
+pub kinds-count : (kind n : ℕ) (conditions table : List ℕ)
+    → countKinds (kind + 1) n conditions table ≡ countKinds kind n conditions table + countOf n (row (fromRows conditions table kind))
+unfolding countKinds
+kinds-count kind n conditions table = rw add-one refl
+
+pub kinds-more : (kind n at : ℕ) (conditions table rows old mid new : List ℕ) (r q : ℕ) → rows ≡ fromRows conditions table kind
+    → Spliced (spelt (firstKinds kind n conditions table)) at old mid r → Spliced (spelt (kindArrows kind n (row rows))) r mid new q
+    → Spliced (spelt (firstKinds (kind + 1) n conditions table)) at old new q
+unfolding firstKinds
+kinds-more kind n at conditions table rows old mid new r q e s t =
+    let before : List Arrow = firstKinds kind n conditions table in
+    let here : List Arrow = kindArrows kind n (row rows) in
+    subst (λ (v : List ℕ). Spliced v at old new q)
+    (sym (spelt-append before here)
+    ∙ ap (λ (l : List ℕ). spelt (before ++ kindArrows kind n (row l))) e
+    ∙ ap (λ (m : ℕ). spelt (firstKinds m n conditions table)) (sym (add-one kind)))
+    (spliced-then (spelt before) (spelt here) at old mid new r q s t)
+
+-- no kind
+pub kinds-none : (n at : ℕ) (conditions table room : List ℕ) → Spliced (spelt (firstKinds 0 n conditions table)) at room room at
+unfolding firstKinds spelt
+kinds-none n at conditions table room = record { next = omega arith; stored = refl }
+
+pub kinds-most : (kinds n : ℕ) (conditions table : List ℕ) → n ≤ 64 → countKinds kinds n conditions table ≤ kinds * 4096
+unfolding countKinds
+kinds-most zero n conditions table h = omega arith
+kinds-most (suc kind) n conditions table h =
+    let before : countKinds kind n conditions table ≤ kind * 4096 = kinds-most kind n conditions table h in
+    let here : countOf n (row (fromRows conditions table kind)) ≤ 64 * n = count-most n (row (fromRows conditions table kind)) in
+    omega arith
+
+pub kinds-mono : (kinds n : ℕ) (conditions table : List ℕ) → kinds < 4
+    → countKinds (kinds + 1) n conditions table ≤ countKinds 4 n conditions table
+unfolding countKinds
+kinds-mono zero n conditions table h = omega arith
+kinds-mono (suc zero) n conditions table h = omega arith
+kinds-mono (suc (suc zero)) n conditions table h = omega arith
+kinds-mono (suc (suc (suc zero))) n conditions table h = omega arith
+kinds-mono (suc (suc (suc (suc k)))) n conditions table h = absurd (let z : ⊥ = omega arith in z)
+
+-- all four, with the conditions turned
+module _ (n : ℕ) (conditions table : List ℕ) (k : Kept n table) (e : conditions ≡ turnedIn n table) where
+  pub length-from : length table ≡ 256 → (kind : ℕ) → kind < 4 → length (fromRows conditions table kind) ≡ 64
+  unfolding fromRows
+  length-from l zero h = ap length e ∙ length-turned n (row (kindRows table 0))
+  length-from l (suc kind) h = rows-at (suc kind * 64) 64 table (omega arith)
+
+  pub body-kinds : spelt (firstKinds 4 n conditions table) ≡ arrowsBody table
+  body-kinds = ap (λ (t : List ℕ). spelt (firstKinds 4 n t table)) e ∙ ap spelt (sym (by-kind n table k))
+
+  pub length-body : length (arrowsBody table) ≡ 3 * countKinds 4 n conditions table
+  length-body = ap length (sym body-kinds) ∙ length-kinds 4 n conditions table
+
+  pub body-most : length (arrowsBody table) ≤ 49152
+  body-most =
+      let l : length (arrowsBody table) ≡ 3 * countKinds 4 n conditions table = length-body in
+      let most : countKinds 4 n conditions table ≤ 4 * 4096 = kinds-most 4 n conditions table (k .few) in
+      omega arith
 
 -- ---- turning
 

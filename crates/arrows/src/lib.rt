@@ -1,12 +1,12 @@
 // The arrows of a sheet: three bytes each, kind, from, to, strictly ascending. They are read into one table of 256 rows, a row for each
-// kind and step, and written from four tables of 64 that are parts of a block.
+// kind and step, and written from it.
 ghost use mathlib.Core.Path.{_≡_};
 ghost use Prim.Native.Nat.{_+_, _*_, _%_, _<_, _≤_};
 ghost use lib.ListN.{length};
 ghost use Rattle.tables.specs.Tables.{row};
 ghost use Rattle.numbers.specs.Numbers.{Spliced};
-ghost use Rattle.arrows.specs.Arrows.{arrowsIn, arrowsFit, putAll, spelt};
-ghost use Rattle.arrows.specs.Rows.{members, rowArrows, kindArrows, countOf, turned};
+ghost use Rattle.arrows.specs.Arrows.{arrowsIn, arrowsFit, putAll, spelt, arrowsBody};
+ghost use Rattle.arrows.specs.Rows.{members, rowArrows, kindArrows, countOf, turned, turnedIn, fromRows, Kept};
 ghost use Rattle.arrows.specs.Loops.{filled};
 use crate::runs::fits;
 use crate::runs::take;
@@ -16,7 +16,8 @@ pub mod runs;
 // Puts the arrows into the table, up to the first that does not fit. Do all fit?
 pub fn read(s: &[u8], n: u8, table: &mut [u64; 256]) -> bool
     requires { ⌜ (n ≤ 64) × (length (now s) % 3 ≡ 0) ⌝ }
-    ensures { λ r. ⌜ (r ≡ arrowsFit n (arrowsIn (now (s .entry)))) × (now (table .exit) ≡ filled n 0 (now (table .entry)) (arrowsIn (now (s .entry)))) ⌝ }
+    ensures { λ r. ⌜ r ≡ arrowsFit n (arrowsIn (now (s .entry))) ⌝ }
+    ensures { λ r. ⌜ now (table .exit) ≡ filled n 0 (now (table .entry)) (arrowsIn (now (s .entry))) ⌝ }
 {
     let mut next = 0;
     let mut i = 0;
@@ -38,8 +39,8 @@ fn many(x: u64) -> usize
     u64::count_ones(x) as usize
 }
 
-// How many arrows come from the first n steps?
-pub fn count(n: u8, rows: &[u64]) -> usize
+// How many arrows of a kind come from the first n steps?
+fn count_kind(n: u8, rows: &[u64]) -> usize
     requires { ⌜ (n ≤ 64) × (n ≤ length (now rows)) ⌝ }
     ensures { λ r. ⌜ r ≡ countOf n (row (now (rows .entry))) ⌝ }
 {
@@ -102,7 +103,7 @@ fn write_row(k: u8, a: u8, x: u64, room: &mut [u8], at: usize) -> usize
 }
 
 // Writes the arrows of kind k that come from the first n steps, and gives the place after them.
-pub fn write(k: u8, n: u8, rows: &[u64], room: &mut [u8], at: usize) -> usize
+fn write_kind(k: u8, n: u8, rows: &[u64], room: &mut [u8], at: usize) -> usize
     requires { ⌜ (n ≤ 64) × (n ≤ length (now rows)) × (at + 3 * countOf n (row (now rows)) ≤ length (now room)) ⌝ }
     ensures { λ r. ⌜ Spliced (spelt (kindArrows k n (row (now (rows .entry))))) at (now (room .entry)) (now (room .exit)) r ⌝ }
 {
@@ -112,6 +113,49 @@ pub fn write(k: u8, n: u8, rows: &[u64], room: &mut [u8], at: usize) -> usize
         let i = a as usize;
         to = write_row(k, a, rows[i], room, to);
         a += 1;
+    }
+    to
+}
+
+// The rows of kind k by the step that its arrows come from. The conditions are turned already.
+fn from_rows<'a>(k: usize, conditions: &'a [u64], table: &'a [u64]) -> &'a [u64]
+    requires { ⌜ (k < 4) × (length (now table) ≡ 256) ⌝ }
+    ensures { λ r. ⌜ now r ≡ fromRows (now (conditions .entry)) (now (table .entry)) k ⌝ }
+{
+    if k == 0 {
+        return conditions;
+    }
+    let from = k * 64;
+    let end = from + 64;
+    &table[from..end]
+}
+
+// How many bytes do the arrows of the table take?
+pub fn size<'a>(n: u8, conditions: &'a [u64], table: &'a [u64]) -> usize
+    requires { ⌜ Kept n (now table) × (length (now table) ≡ 256) × (now conditions ≡ turnedIn n (now table)) ⌝ }
+    ensures { λ r. ⌜ r ≡ length (arrowsBody (now (table .entry))) ⌝ }
+{
+    let mut found = 0;
+    let mut k = 0;
+    while k < 4 {
+        found += count_kind(n, from_rows(k, conditions, table));
+        k += 1;
+    }
+    3 * found
+}
+
+// Writes the arrows of the table, and gives the place after them.
+pub fn write<'a>(n: u8, conditions: &'a [u64], table: &'a [u64], room: &mut [u8], at: usize) -> usize
+    requires { ⌜ Kept n (now table) × (length (now table) ≡ 256) × (now conditions ≡ turnedIn n (now table)) ⌝ }
+    requires { ⌜ at + length (arrowsBody (now table)) ≤ length (now room) ⌝ }
+    ensures { λ r. ⌜ Spliced (arrowsBody (now (table .entry))) at (now (room .entry)) (now (room .exit)) r ⌝ }
+{
+    let mut to = at;
+    let mut k = 0;
+    while k < 4 {
+        let i = k as usize;
+        to = write_kind(k, n, from_rows(i, conditions, table), room, to);
+        k += 1;
     }
     to
 }

@@ -44,8 +44,4 @@ setsIn rows body = tabled rows (setAt body)
 unfoldable pub roleSetsFit : ℕ → List ℕ → Bool
 roleSetsFit roles body = every (length body / 2) (λ i. within roles (setAt body i))
 
--- ---- 5. Arrows: see the crate `arrows`. Its table of 256 rows is four of 64
-
--- the 64 rows from row `from` on
-abbrev pub quarter : List ℕ → ℕ → List ℕ
-quarter table from = tabled 64 (λ i. row table (from + i))
+-- ---- 5. Arrows: see the crate `arrows`

@@ -3,7 +3,7 @@ ghost use mathlib.Core.Path.{_≡_};
 ghost use Prim.Native.Nat.{_+_, _*_, _%_, _<_, _≤_};
 ghost use lib.ListN.{length};
 ghost use Rattle.numbers.specs.Numbers.{Spliced};
-ghost use Rattle.bodies.specs.Bodies.{countsBody, countsIn, markingBody, markingIn, rolesBody, setAt, setsIn, roleSetsFit, quarter};
+ghost use Rattle.bodies.specs.Bodies.{countsBody, countsIn, markingBody, markingIn, rolesBody, setAt, setsIn, roleSetsFit};
 use moves::Marking;
 
 pub struct Counts {
@@ -75,17 +75,17 @@ pub fn read_roles(body: &[u8], count: usize, block: &mut [u64], at: usize) -> us
     at + count
 }
 
-// Puts the 64 rows of the table from row `from` on into the block from word `at` on, and gives the place after them.
-pub fn read_rows(all: &[u64; 256], from: usize, block: &mut [u64], at: usize) -> usize
-    requires { ⌜ (from ≤ 192) × (at + 64 ≤ length (now block)) ⌝ }
-    ensures { λ r. ⌜ Spliced (quarter (now (all .entry)) from) at (now (block .entry)) (now (block .exit)) r ⌝ }
+// Copies the rows into the block from word `at` on, and gives the place after them.
+pub fn copy(rows: &[u64], block: &mut [u64], at: usize) -> usize
+    requires { ⌜ at + length (now rows) ≤ length (now block) ⌝ }
+    ensures { λ r. ⌜ Spliced (now (rows .entry)) at (now (block .entry)) (now (block .exit)) r ⌝ }
 {
     let mut i = 0;
-    while i < 64 {
-        block[at + i] = all[from + i];
+    while i < rows.len() {
+        block[at + i] = rows[i];
         i += 1;
     }
-    at + 64
+    at + rows.len()
 }
 
 pub fn write_counts(steps: u64, people: u64, roles: u64, room: &mut [u8], at: usize) -> usize

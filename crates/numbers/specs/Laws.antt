@@ -40,11 +40,18 @@ number-add zero b i s = rw (zero-add, add-zero) (omega arith)
 number-add (suc a) b i s =
     let l : number (suc a + b) (drop i s) ≡ number (suc (a + b)) (drop i s) = ap (λ (k : ℕ). number k (drop i s)) (suc-add a b) in
     let f : number (suc (a + b)) (drop i s) ≡ getD s i 0 + 256 * number (a + b) (drop (i + 1) s) = number-suc (a + b) i s in
-    let r : number (a + b) (drop (i + 1) s) ≡ number a (drop (i + 1) s) + 256 ^ a * number b (drop (i + 1 + a) s) = number-add a b (i + 1) s in
+    let r : number (a + b) (drop (i + 1) s) ≡ number a (drop (i + 1) s) + 256 ^ a * number b (drop (i + 1 + a) s) =
+    number-add a b (i + 1) s in
     let g : number (suc a) (drop i s) ≡ getD s i 0 + 256 * number a (drop (i + 1) s) = number-suc a i s in
     let p : 256 ^ suc a ≡ 256 ^ a * 256 = pow-suc 256 a in
-    let e : number b (drop (i + 1 + a) s) ≡ number b (drop (i + suc a) s) = ap (λ (k : ℕ). number b (drop k s)) (let z : i + 1 + a ≡ i + suc a = omega arith in z) in
+    let e : number b (drop (i + 1 + a) s) ≡ number b (drop (i + suc a) s) =
+    ap (λ (k : ℕ). number b (drop k s)) (let z : i + 1 + a ≡ i + suc a = omega arith in z) in
     rw (p, l, f, r, g, e) (omega arith)
+
+-- a number in two halves: the low one, and the high one times what it weighs
+pub number-halves : (w i : ℕ) (s : List ℕ) (low high : ℕ) → low ≡ number w (drop i s) → high ≡ number w (drop (i + w) s)
+    → low + 256 ^ w * high ≡ number (w + w) (drop i s)
+number-halves w i s low high p q = ap₂ (λ (x y : ℕ). x + 256 ^ w * y) p q ∙ sym (number-add w w i s)
 
 -- reading what was spelt gives the number
 pub number-bytes : (w x : ℕ) (rest : List ℕ) → x < 256 ^ w → number w (bytes w x ++ rest) ≡ x
@@ -56,8 +63,9 @@ number-bytes (suc w) x rest h =
     let r : number w (bytes w (x / 256) ++ rest) ≡ x / 256 = number-bytes w (x / 256) rest low in
     omega arith
 
-tail-bytes : (b : ℕ) (s : List ℕ) → Bytes (b ∷ s) → Bytes s
-tail-bytes b s h i = h (suc i)
+-- what is left of bytes is bytes
+pub drop-bytes : (k : ℕ) (s : List ℕ) → Bytes s → Bytes (drop k s)
+drop-bytes k s h i = subst (λ (x : ℕ). x < 256) (sym (getD-drop k s i 0)) (h (k + i))
 
 -- spelling what was read gives the bytes
 pub bytes-number : (w : ℕ) (s : List ℕ) → Bytes s → w ≤ length s → bytes w (number w s) ≡ take w s
@@ -68,7 +76,8 @@ bytes-number (suc w) (b ∷ s) h l =
     let small : b < 256 = h 0 in
     let low : (b + 256 * number w s) % 256 ≡ b = omega arith in
     let high : (b + 256 * number w s) / 256 ≡ number w s = omega arith in
-    ap₂ (λ (x y : ℕ). x ∷ bytes w y) low high ∙ ap (λ (r : List ℕ). b ∷ r) (bytes-number w s (tail-bytes b s h) (le-of-suc-le-suc l))
+    ap₂ (λ (x y : ℕ). x ∷ bytes w y) low high
+    ∙ ap (λ (r : List ℕ). b ∷ r) (bytes-number w s (drop-bytes 1 (b ∷ s) h) (le-of-suc-le-suc l))
 
 pub number-lt : (w : ℕ) (s : List ℕ) → Bytes s → number w s < 256 ^ w
 unfolding number
@@ -76,18 +85,20 @@ number-lt zero s h = lit< tt
 number-lt (suc w) s h =
     let p : 256 ^ suc w ≡ 256 ^ w * 256 = pow-suc 256 w in
     let b : getD s 0 0 < 256 = h 0 in
-    let r : number w (drop 1 s) < 256 ^ w = number-lt w (drop 1 s) (λ i. subst (λ (x : ℕ). x < 256) (sym (getD-drop 1 s i 0)) (h (1 + i))) in
+    let r : number w (drop 1 s) < 256 ^ w = number-lt w (drop 1 s) (drop-bytes 1 s h) in
     rw p (omega arith)
 
 -- what is stored in two runs is stored in one
 pub sets-append : (v w l : List ℕ) (i : ℕ) → sets (sets l i v) (i + length v) w ≡ sets l i (v ++ w)
 sets-append [] w l i = ap (λ (k : ℕ). sets l k w) (add-zero i)
 sets-append (x ∷ v) w l i =
-    ap (λ (k : ℕ). sets (sets (set l i x) (suc i) v) k w) (add-suc i (length v) ∙ sym (suc-add i (length v))) ∙ sets-append v w (set l i x) (suc i)
+    ap (λ (k : ℕ). sets (sets (set l i x) (suc i) v) k w) (add-suc i (length v) ∙ sym (suc-add i (length v)))
+    ∙ sets-append v w (set l i x) (suc i)
 
 -- ---- writers, one after the other
 
-pub spliced-then : (v w : List ℕ) (at : ℕ) (old mid new : List ℕ) (r q : ℕ) → Spliced v at old mid r → Spliced w r mid new q → Spliced (v ++ w) at old new q
+pub spliced-then : (v w : List ℕ) (at : ℕ) (old mid new : List ℕ) (r q : ℕ)
+    → Spliced v at old mid r → Spliced w r mid new q → Spliced (v ++ w) at old new q
 spliced-then v w at old mid new r q a b =
     let l : length (v ++ w) ≡ length v + length w = length-append v w in
     let n : r ≡ at + length v = a .next in
@@ -100,12 +111,26 @@ spliced-then v w at old mid new r q a b =
 pub spliced-length : (v : List ℕ) (at : ℕ) (old new : List ℕ) (r : ℕ) → Spliced v at old new r → length new ≡ length old
 spliced-length v at old new r a = ap length (a .stored) ∙ length-sets old at v
 
+-- where there is room for two, there is room for the first, and then for the second
+pub room-first : (v w : List ℕ) (at room : ℕ) → at + length (v ++ w) ≤ room → at + length v ≤ room
+room-first v w at room h = let l : length (v ++ w) ≡ length v + length w = length-append v w in omega arith
+
+pub room-then : (v w : List ℕ) (at : ℕ) (old new : List ℕ) (r : ℕ) → Spliced v at old new r
+    → at + length (v ++ w) ≤ length old → r + length w ≤ length new
+room-then v w at old new r a h =
+    let l : length (v ++ w) ≡ length v + length w = length-append v w in
+    let n : r ≡ at + length v = a .next in
+    let e : length new ≡ length old = spliced-length v at old new r a in
+    omega arith
+
 -- ---- the loop that spells
 
 -- one byte more
-pub put-more : (l : List ℕ) (to left x : ℕ) → 0 < left → sets l to (bytes left x) ≡ sets (set l to (x % 256)) (to + 1) (bytes (left - 1) (x / 256))
+pub put-more : (l : List ℕ) (to left x : ℕ) → 0 < left
+    → sets l to (bytes left x) ≡ sets (set l to (x % 256)) (to + 1) (bytes (left - 1) (x / 256))
 put-more l to left x h =
-    ap (sets l to) (bytes-pos left x h) ∙ ap (λ (k : ℕ). sets (set l to (x % 256)) k (bytes (left - 1) (x / 256))) (sym (add-one to))
+    ap (sets l to) (bytes-pos left x h)
+    ∙ ap (λ (k : ℕ). sets (set l to (x % 256)) k (bytes (left - 1) (x / 256))) (sym (add-one to))
 
 -- none left
 pub put-done : (l : List ℕ) (to left x : ℕ) → left ≤ 0 → sets l to (bytes left x) ≡ l

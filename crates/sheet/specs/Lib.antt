@@ -1,5 +1,2 @@
 pub mod Sheet
-pub mod Judge
-pub mod Filled
-pub mod Write
-pub mod Content
+pub mod Laws

@@ -1,24 +1,14 @@
 // The sheet of a graph and its first marking: the reader and the writer. A graph is lent as one block.
 ghost use mathlib.Core.Path.{_≡_};
+ghost use mathlib.Core.Bool.{true, false};
 ghost use lib.ListN.{length};
 ghost use Rattle.rules.specs.Graph.{graphOf};
-ghost use Rattle.sheet.specs.Sheet.{readVerdict, ifClear, blockRead, theAnswer, theWritten, roomAfter};
-use crate::reading::fill_block;
-use crate::refusals::judge;
-use crate::writing::arrow_count;
-use crate::writing::content;
-use crate::writing::fill;
+ghost use Rattle.sheet.specs.Sheet.{readVerdict, blockRead, ifClear, theAnswer, theWritten, roomAfter};
 use moves::Marking;
 use moves::NONE;
 use moves::Refusal;
 use moves::Verdict;
-use rules::CONDITIONS;
 use rules::Job;
-use rules::RESPONSES;
-
-pub mod reading;
-pub mod refusals;
-pub mod writing;
 
 // What is against a sheet, and its first marking. On a refusal the marking is empty.
 pub struct Answer {
@@ -32,24 +22,32 @@ pub enum Written {
     Refused(Refusal),
 }
 
+fn refused(v: Verdict) -> bool
+    ensures { λ r. ⌜ r ≡ ifClear v false true ⌝ }
+{
+    match v {
+        Verdict::Clear => false,
+        Verdict::Refused(_) => true,
+    }
+}
+
 // Reads a sheet into the block. Refusals 1 to 6; on a refusal the block stays as it is.
 pub fn read(s: &[u8], g: &mut Job) -> Answer
     ensures { λ r. ⌜ r ≡ theAnswer (now (s .entry)) ⌝ }
     ensures { λ r. ⌜ now (g .exit) ≡ ifClear (readVerdict (now (s .entry))) (blockRead (now (s .entry))) (now (g .entry)) ⌝ }
 {
     let mut table = [0u64; 256];
-    let v = judge(s, &mut table);
-    if let Verdict::Refused(r) = v {
+    let v = reading::judge(s, &mut table);
+    if refused(v) {
         return Answer {
-            verdict: Verdict::Refused(r),
+            verdict: v,
             first: NONE,
         };
     }
-    let m = bodies::read_marking(layout::body(s, 1));
-    fill_block(s, &table, g);
+    reading::fill(s, &table, g);
     Answer {
-        verdict: Verdict::Clear,
-        first: m,
+        verdict: v,
+        first: reading::first_marking(s),
     }
 }
 
@@ -58,18 +56,14 @@ pub fn write(g: &Job, m: Marking, room: &mut [u8]) -> Written
     ensures { λ r. ⌜ r ≡ theWritten (graphOf (now (g .entry))) m (length (now (room .entry))) ⌝ }
     ensures { λ r. ⌜ now (room .exit) ≡ roomAfter (graphOf (now (g .entry))) m (now (room .entry)) ⌝ }
 {
-    let v = content(g, m);
+    let v = writing::content(g, m);
     if let Verdict::Refused(r) = v {
         return Written::Refused(r);
     }
-    let steps = g[0];
-    let people = g[1];
-    let w = &g[..];
-    let turned = arrows::turned(steps as u8, &w[CONDITIONS..RESPONSES]);
-    let count = arrow_count(g, &turned);
-    let size = 53 + 2 * (steps as usize) + 2 * (people as usize) + 3 * count;
+    let turned = writing::turned(g);
+    let size = writing::size(g, &turned);
     if room.len() < size {
         return Written::Refused(Refusal::Room);
     }
-    Written::Length(fill(g, &turned, m, count, room))
+    Written::Length(writing::fill(g, &turned, m, size, room))
 }

@@ -1,13 +1,13 @@
 -- What is gathered of a graph's tables tells whether they keep to the counts. Assumes nothing.
 use Prim.Native.Nat.{ℕ, zero, suc, _+_, _-_, _^_, _≤_, _<_}
 use mathlib.Core.Path.{_≡_, refl, sym, ap, ap₂, _∙_, subst}
-use mathlib.Core.List.{List}
+use mathlib.Core.List.{List, [], _∷_, _++_}
 use mathlib.Core.Bool.{Bool, true, false, _&&_, cond, true≢false}
-use native.Mathlib.Nat.{lt-of-lt-of-le, lt-of-le-of-lt}
+use native.Mathlib.Nat.{lt-of-lt-of-le, lt-of-le-of-lt, zero-add, suc-add}
 use native.Mathlib.Omega.{arith}
 use native.Mathlib.Decide.{decLt}
-use lib.ListN.{length, drop, length-drop, List·getD-eq-default}
-use lib.Seq.{getD-take, getD-drop, length-take-le}
+use lib.ListN.{length, take, drop, length-drop, List·getD-eq-default}
+use lib.Seq.{getD-take, getD-drop, length-take-le, take-add, take-nil, take-take, take-append-le, drop-append-le, drop-append-add, drop-drop}
 use lib.Dec.{ltb, leb}
 use borrow.Author.Tests.{ltb-true, leb-true, lt-ltb, le-ltb, eq-eqb, eqb-true}
 use Rattle.sets.specs.Sets.{union, empty, within, full, gather, every, has}
@@ -29,6 +29,34 @@ row-at at count words s h = getD-take count (drop at words) s 0 h ∙ getD-drop 
 pub rows-at : (at count : ℕ) (words : List ℕ) → at + count ≤ length words → length (tableAt at count words) ≡ count
 rows-at at count words h =
     length-take-le count (drop at words) (let l : length (drop at words) ≡ length words - at = length-drop at words in omega arith)
+
+-- two tables, one after the other
+pub table-join : (at a b : ℕ) (words : List ℕ) → tableAt at a words ++ tableAt (at + a) b words ≡ tableAt at (a + b) words
+table-join at a b words =
+    sym (take-add a b (drop at words) ∙ ap (λ (rest : List ℕ). tableAt at a words ++ take b rest) (drop-drop a at words))
+
+-- a table of a table
+pub table-of-table : (from whole at count : ℕ) (words : List ℕ) → at + count ≤ whole
+    → tableAt at count (tableAt from whole words) ≡ tableAt (from + at) count words
+table-of-table from whole at count words h =
+    ap (λ (k : ℕ). tableAt at count (take k (drop from words))) (let z : whole ≡ at + (whole - at) = omega arith in z)
+    ∙ ap (take count) (behind at (whole - at) (drop from words))
+    ∙ take-take count (whole - at) (drop at (drop from words)) (omega arith)
+    ∙ ap (take count) (drop-drop at from words)
+  where
+    behind : (a k : ℕ) (l : List ℕ) → drop a (take (a + k) l) ≡ take k (drop a l)
+    behind zero k l = ap (λ (n : ℕ). take n l) (zero-add k)
+    behind (suc a) k [] = ap (drop (suc a)) (take-nil (suc a + k)) ∙ sym (take-nil k)
+    behind (suc a) k (x ∷ l) = ap (λ (n : ℕ). drop (suc a) (take n (x ∷ l))) (suc-add a k) ∙ behind a k l
+
+-- a table that lies in the first of two lists, and one that lies in the second
+pub table-front : (at count : ℕ) (a b : List ℕ) → at + count ≤ length a → tableAt at count (a ++ b) ≡ tableAt at count a
+table-front at count a b h =
+    ap (take count) (drop-append-le at a b (omega arith))
+    ∙ take-append-le count (drop at a) b (let l : length (drop at a) ≡ length a - at = length-drop at a in omega arith)
+
+pub table-back : (at count : ℕ) (a b : List ℕ) → tableAt (length a + at) count (a ++ b) ≡ tableAt at count b
+table-back at count a b = ap (take count) (drop-append-add a b at)
 
 -- ---- what is gathered
 

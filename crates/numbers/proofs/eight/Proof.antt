@@ -1,8 +1,6 @@
--- `eight`: the low half, and the high half times what it weighs. Assumes nothing.
-use Prim.Native.Nat.{ℕ, _+_, _*_}
-use mathlib.Core.Path.{_∙_, sym, ap₂}
+-- `eight`: the two halves, by the law of halves. Assumes nothing.
 use borrow.Author.Needs.{needs}
-use Rattle.numbers.specs.Laws.{number-add}
+use Rattle.numbers.specs.Laws.{number-halves}
 use Rattle.numbers.proofs.eight.Statement.{statement}
 use Rattle.numbers.proofs.eight.Tie as tie
 
@@ -30,7 +28,7 @@ add-result c = search needs
 returns : tie.Need-returns
 returns c =
     let a = c .before .before .before .args in
-    ap₂ (λ (x y : ℕ). x + 4294967296 * y) (c .before .four .ensures) (c .four2 .ensures) ∙ sym (number-add 4 4 (a .at) (a .s .now))
+    number-halves 4 (a .at) (a .s .now) _ _ (c .before .four .ensures) (c .four2 .ensures)
 
 pub eight-spec : {M : Type 1} → statement M
 eight-spec =

@@ -1,8 +1,6 @@
--- `four`: the low half, and the high half times what it weighs. Assumes nothing.
-use Prim.Native.Nat.{ℕ, _+_, _*_}
-use mathlib.Core.Path.{_∙_, sym, ap₂}
+-- `four`: the two halves, by the law of halves. Assumes nothing.
 use borrow.Author.Needs.{needs}
-use Rattle.numbers.specs.Laws.{number-add}
+use Rattle.numbers.specs.Laws.{number-halves}
 use Rattle.numbers.proofs.four.Statement.{statement}
 use Rattle.numbers.proofs.four.Tie as tie
 
@@ -30,7 +28,7 @@ add-result c = search needs
 returns : tie.Need-returns
 returns c =
     let a = c .before .before .before .args in
-    ap₂ (λ (x y : ℕ). x + 65536 * y) (c .before .two .ensures) (c .two2 .ensures) ∙ sym (number-add 2 2 (a .at) (a .s .now))
+    number-halves 2 (a .at) (a .s .now) _ _ (c .before .two .ensures) (c .two2 .ensures)
 
 pub four-spec : {M : Type 1} → statement M
 four-spec =

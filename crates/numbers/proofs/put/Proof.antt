@@ -37,7 +37,8 @@ loop-less c = search needs
 loop-again : tie.Need-loop-again Inv-loop μ-loop
 loop-again c =
     let l = c .before .loop in
-    (search needs, simp length-set (l .inv .1), search needs, l .inv .3 ∙ put-more (l .room) (l .to) (l .left) (l .rest) (c .loop-test .taken))
+    let left = put-more (l .room) (l .to) (l .left) (l .rest) (c .loop-test .taken) in
+    (search needs, simp length-set (l .inv .1), search needs, l .inv .3 ∙ left)
 
 same-length : tie.Need-same-length Inv-loop μ-loop
 same-length c = c .before .loop .inv .1
@@ -47,7 +48,8 @@ returns c =
     let a = c .before .before .args in
     let l = c .before .loop in
     let n : length (bytes (a .w) (a .x)) ≡ a .w = length-bytes (a .w) (a .x) in
-    record { next = search needs; stored = sym (l .inv .3 ∙ put-done (l .room) (l .to) (l .left) (l .rest) (c .loop-test .left)) }
+    let none = put-done (l .room) (l .to) (l .left) (l .rest) (c .loop-test .left) in
+    record { next = search needs; stored = sym (l .inv .3 ∙ none) }
 
 pub put-spec : {M : Type 1} → statement M
 put-spec =

@@ -26,7 +26,9 @@ mul-result : tie.Need-mul-result
 mul-result c = omega (arith, c .before .shared-slice-known .given (c .before .before .args .at + 1))
 
 add-result-2 : tie.Need-add-result-2
-add-result-2 c = omega (arith, c .before .shared-slice-known .given (c .before .before .args .at), c .before .shared-slice-known .given (c .before .before .args .at + 1))
+add-result-2 c =
+    let a = c .before .before .args in
+    omega (arith, c .before .shared-slice-known .given (a .at), c .before .shared-slice-known .given (a .at + 1))
 
 returns : tie.Need-returns
 returns c = sym (number-two (c .before .before .args .at) (c .before .before .args .s .now))

@@ -1,76 +1,63 @@
 -- `read`: on a refusal nothing is written; else the block is what the sheet says. Assumes nothing.
-use Prim.Native.Nat.{ℕ, _≤_}
-use mathlib.Core.Path.{_≡_, sym, ap, _∙_}
+use Prim.Native.Nat.{ℕ}
+use mathlib.Core.Path.{_≡_, sym, _∙_}
 use mathlib.Core.List.{List}
-use native.Mathlib.Omega.{arith}
-use lib.ListN.{length}
-use lib.Dec.{lit<}
 use borrow.Author.Needs.{needs}
 use Rattle.moves.specs.declared.Verdict.{Verdict}
-use Rattle.arrows.specs.Loops.{filled}
-use Rattle.layout.specs.Layout.{bodyAt}
-use Rattle.bodies.specs.Bodies.{markingIn}
-use Rattle.sheet.specs.Sheet.{readVerdict, blockRead}
-use Rattle.sheet.specs.Judge.{Placed, Right, clear-right, if-clear, if-refused, body-length}
-use Rattle.sheet.specs.Filled.{answer-refused, answer-clear}
+use Rattle.reading.specs.Reading.{readVerdict}
+use Rattle.reading.specs.Laws.{clear-right}
+use Rattle.sheet.specs.Laws.{read-refused, read-clear, not-refused}
 use Rattle.sheet.proofs.read.Statement.{statement}
 use Rattle.sheet.proofs.read.Tie as tie
 
 judge-requires : tie.Need-judge-requires
 judge-requires c κs = search needs
 
-enum-known-v : tie.Need-enum-known-v
-enum-known-v c = search needs
+refused-requires : tie.Need-refused-requires
+refused-requires c κs = search needs
 
 returns : tie.Need-returns
 returns c =
-    let s : List ℕ = c .before .before .before .before .before .before .args .s .now in
-    let w : readVerdict s ≡ Verdict.Refused _ = sym (c .before .before .before .judge .ensures .right) ∙ c .before .v .given .1 in
-    (answer-refused s _ w, sym (if-refused (readVerdict s) _ (blockRead s) (c .before .before .before .before .before .before .args .g .now) w))
+    let judged = c .before .before in
+    let a = judged .before .before .before .args in
+    let r = read-refused (a .s .now) (a .g .now) _ (judged .judge .ensures .right) (sym (c .before .refused .ensures) ∙ c .if1 .taken) in
+    (r .answer, r .block)
 
-enum-told : tie.Need-enum-told
-enum-told c = search needs
+-- past the test nothing is against the sheet
+abbrev sheet : tie.Else1 → List ℕ
+sheet c = c .before .before .before .before .before .args .s .now
 
-body-requires : tie.Need-body-requires
-body-requires c κs =
-    let s : List ℕ = c .before .before .before .before .before .args .s .now in
-    let v : readVerdict s ≡ Verdict.Clear = sym (c .before .before .judge .ensures .right) ∙ c .enum-told .given .1 in
-    let g : Right s = clear-right s v in
-    let p : Placed s = g .placed in
-    let long : 29 ≤ length s = p .long in
-    (omega arith, p .inside 1 (lit< tt))
+clear : (c : tie.Else1) → c .before .before .judge .result ≡ Verdict.Clear
+clear c = not-refused _ (sym (c .before .refused .ensures) ∙ c .if1 .left)
 
-read-marking-requires : tie.Need-read-marking-requires
-read-marking-requires c κs =
-    let s : List ℕ = c .before .before .before .before .before .before .args .s .now in
-    let v : readVerdict s ≡ Verdict.Clear = sym (c .before .before .before .judge .ensures .right) ∙ c .before .enum-told .given .1 in
-    let g : Right s = clear-right s v in
-    let p : Placed s = g .placed in
-    let long : 29 ≤ length s = p .long in
-    let n : length (bodyAt s 1) ≡ 24 = body-length s p 1 (lit< tt) ∙ p .two in
-    omega (arith, ap length (c .body .ensures))
+sheet-clear : (c : tie.Else1) → readVerdict (sheet c) ≡ Verdict.Clear
+sheet-clear c = sym (c .before .before .judge .ensures .right) ∙ clear c
 
-fill-block-requires : tie.Need-fill-block-requires
-fill-block-requires c κs =
-    let s : List ℕ = c .before .before .before .before .before .before .before .before .before .args .s .now in
-    let v : readVerdict s ≡ Verdict.Clear = sym (c .before .before .before .before .before .before .judge .ensures .right) ∙ c .before .before .before .before .enum-told .given .1 in
-    (clear-right s v, search needs, c .before .before .before .before .before .before .judge .ensures .filled (c .before .before .before .before .enum-told .given .1))
+fill-requires : tie.Need-fill-requires
+fill-requires c κs =
+    let tested = c .before .before in
+    (sheet-clear tested, search needs, tested .before .before .judge .ensures .filled (clear tested))
+
+first-marking-requires : tie.Need-first-marking-requires
+first-marking-requires c κs =
+    let tested = c .before .before .before in
+    clear-right (sheet tested) (sheet-clear tested) .opened .placed
 
 returns-2 : tie.Need-returns-2
 returns-2 c =
-    let s : List ℕ = c .before .before .before .before .before .before .before .before .before .before .args .s .now in
-    let v : readVerdict s ≡ Verdict.Clear = sym (c .before .before .before .before .before .before .before .judge .ensures .right) ∙ c .before .before .before .before .before .enum-told .given .1 in
-    (answer-clear s _ v (c .before .before .before .read-marking .ensures ∙ ap markingIn (c .before .before .before .before .body .ensures)), c .fill-block .ensures ∙ sym (if-clear (readVerdict s) (blockRead s) (c .before .before .before .before .before .before .before .before .before .before .args .g .now) v))
+    let tested = c .before .before .before .before in
+    let judged = tested .before .before in
+    let old = judged .before .before .before .args .g .now in
+    let r = read-clear (sheet tested) old _ _ _ (judged .judge .ensures .right) (clear tested) (c .first-marking .ensures) (c .before .fill .ensures) in
+    (r .answer, r .block)
 
 pub read-spec : {M : Type 1} → statement M
 read-spec =
     tie.close
     (tie.spec
     judge-requires
-    enum-known-v
+    refused-requires
     returns
-    enum-told
-    body-requires
-    read-marking-requires
-    fill-block-requires
+    fill-requires
+    first-marking-requires
     returns-2)

@@ -1,18 +1,17 @@
--- `write`: what is against the content, then the room, then the sheet as it was built. Assumes nothing.
-use Prim.Native.Nat.{_+_, _*_}
-use mathlib.Core.Path.{_≡_, sym, ap, _∙_}
-use mathlib.Core.List.{_++_}
+-- `write`: what is against the content, then the room, then the sheet as it was filled in. Assumes nothing.
+use Prim.Native.Nat.{ℕ}
+use mathlib.Core.Path.{_≡_, sym, _∙_}
 use native.Mathlib.Omega.{arith}
 use lib.ListN.{length}
 use borrow.Author.Needs.{needs}
+use Rattle.moves.specs.declared.Marking.{Marking}
 use Rattle.moves.specs.declared.Verdict.{Verdict}
 use Rattle.moves.specs.First.{first}
-use Rattle.rules.specs.Graph.{Graph, graphOf}
-use Rattle.tables.specs.Laws.{Counted, rows-at}
-use Rattle.layout.specs.Layout.{front}
-use Rattle.sheet.specs.Sheet.{sheetBytes, contentLines}
-use Rattle.sheet.specs.Write.{countWith, bodiesWith, sizesWritten}
-use Rattle.sheet.specs.Content.{Content, clear-content, countIn, sheet-length, write-refused, write-short, write-filled}
+use Rattle.rules.specs.Graph.{Graph, graphOf, graphVerdict}
+use Rattle.writing.specs.Writing.{sheetBytes, contentLines}
+use Rattle.writing.specs.Laws.{graph-clear}
+use Rattle.writing.specs.Parts.{lengthOut, sheet-length}
+use Rattle.sheet.specs.Laws.{write-refused, write-short, write-done}
 use Rattle.sheet.proofs.write.Statement.{statement}
 use Rattle.sheet.proofs.write.Tie as tie
 
@@ -24,145 +23,66 @@ enum-known-v c = search needs
 
 returns : tie.Need-returns
 returns c =
-    let a = c .before .before .before .before .before .args in
-    let g : Graph = graphOf (a .g .now) in
-    let w = write-refused g (a .m) (a .room .now) _ (sym (c .before .before .before .content .ensures) ∙ c .before .v .given .1) in
-    (w .0, w .1)
+    let judged = c .before .before .before in
+    let a = judged .before .before .args in
+    let w = write-refused (graphOf (a .g .now)) (a .m) (a .room .now) _ (sym (judged .content .ensures) ∙ c .before .v .given .1) in
+    (w .answer, w .room)
 
 enum-told : tie.Need-enum-told
 enum-told c = search needs
 
-element-copy-out-steps : tie.Need-element-copy-out-steps
-element-copy-out-steps c = search needs
+-- past the test nothing is against the content
+abbrev start : tie.After-enum-told → tie.Start
+start c = c .before .before .before .before
 
-element-copy-out-people : tie.Need-element-copy-out-people
-element-copy-out-people c = search needs
+abbrev graph : tie.After-enum-told → Graph
+graph c = graphOf (start c .args .g .now)
 
-cast-turned : tie.Need-cast-turned
-cast-turned c =
-    let a = c .before .before .before .before .before .before .before .args in
-    let g : Graph = graphOf (a .g .now) in
-    let e : first (contentLines g (a .m)) ≡ Verdict.Clear = sym (c .before .before .before .before .before .content .ensures) ∙ c .before .before .before .enum-told .given .1 in
-    let k : Content g (a .m) = clear-content g (a .m) e in
-    let d : Counted (g .steps) (g .people) (g .roles) = k .counted in
-    omega arith
+abbrev marking : tie.After-enum-told → Marking
+marking c = start c .args .m
 
-sub-turned : tie.Need-sub-turned
-sub-turned c = search needs
-
-part-turned-start : tie.Need-part-turned-start
-part-turned-start c = search needs
-
-part-turned-end : tie.Need-part-turned-end
-part-turned-end c = search needs
+clear : (c : tie.After-enum-told) → first (contentLines (graph c) (marking c)) ≡ Verdict.Clear
+clear c = sym (c .before .before .content .ensures) ∙ c .enum-told .given .1
 
 turned-requires : tie.Need-turned-requires
-turned-requires c κs =
-    let a = c .before .before .before .before .before .before .before .before .args in
-    let g : Graph = graphOf (a .g .now) in
-    let e : first (contentLines g (a .m)) ≡ Verdict.Clear = sym (c .before .before .before .before .before .before .content .ensures) ∙ c .before .before .before .before .enum-told .given .1 in
-    let k : Content g (a .m) = clear-content g (a .m) e in
-    let d : Counted (g .steps) (g .people) (g .roles) = k .counted in
-    let z : length (a .g .now) ≡ 339 = c .before .w .given .0 in
-    let r : length (g .conditions) ≡ 64 = rows-at 3 64 (a .g .now) (omega arith) in
-    (d .steps-most, omega arith)
+turned-requires c κs = graph-clear (graph c) (marking c) (clear c)
 
-arrow-count-requires : tie.Need-arrow-count-requires
-arrow-count-requires c κs =
-    let a = c .before .before .before .before .before .before .before .before .before .before .args in
-    let g : Graph = graphOf (a .g .now) in
-    let e : first (contentLines g (a .m)) ≡ Verdict.Clear = sym (c .before .before .before .before .before .before .before .before .content .ensures) ∙ c .before .before .before .before .before .before .enum-told .given .1 in
-    let k : Content g (a .m) = clear-content g (a .m) e in
-    let d : Counted (g .steps) (g .people) (g .roles) = k .counted in
-    d .steps-most
+size-requires : tie.Need-size-requires
+size-requires c κs =
+    let told = c .before .before in
+    (graph-clear (graph told) (marking told) (clear told), c .before .turned .ensures)
 
-mul-size : tie.Need-mul-size
-mul-size c =
-    let a = c .before .before .before .before .before .before .before .before .before .before .before .args in
-    let g : Graph = graphOf (a .g .now) in
-    let e : first (contentLines g (a .m)) ≡ Verdict.Clear = sym (c .before .before .before .before .before .before .before .before .before .content .ensures) ∙ c .before .before .before .before .before .before .before .enum-told .given .1 in
-    let k : Content g (a .m) = clear-content g (a .m) e in
-    let d : Counted (g .steps) (g .people) (g .roles) = k .counted in
-    omega (arith, c .arrow-count .ensures .1)
+-- the size is that of the sheet
+abbrev told : tie.After-size → tie.After-enum-told
+told c = c .before .before .before
 
-add-size : tie.Need-add-size
-add-size c =
-    let a = c .before .before .before .before .before .before .before .before .before .before .before .args in
-    let g : Graph = graphOf (a .g .now) in
-    let e : first (contentLines g (a .m)) ≡ Verdict.Clear = sym (c .before .before .before .before .before .before .before .before .before .content .ensures) ∙ c .before .before .before .before .before .before .before .enum-told .given .1 in
-    let k : Content g (a .m) = clear-content g (a .m) e in
-    let d : Counted (g .steps) (g .people) (g .roles) = k .counted in
-    omega (arith, c .arrow-count .ensures .1)
-
-mul-size-2 : tie.Need-mul-size-2
-mul-size-2 c =
-    let a = c .before .before .before .before .before .before .before .before .before .before .before .args in
-    let g : Graph = graphOf (a .g .now) in
-    let e : first (contentLines g (a .m)) ≡ Verdict.Clear = sym (c .before .before .before .before .before .before .before .before .before .content .ensures) ∙ c .before .before .before .before .before .before .before .enum-told .given .1 in
-    let k : Content g (a .m) = clear-content g (a .m) e in
-    let d : Counted (g .steps) (g .people) (g .roles) = k .counted in
-    omega (arith, c .arrow-count .ensures .1)
-
-add-size-2 : tie.Need-add-size-2
-add-size-2 c =
-    let a = c .before .before .before .before .before .before .before .before .before .before .before .args in
-    let g : Graph = graphOf (a .g .now) in
-    let e : first (contentLines g (a .m)) ≡ Verdict.Clear = sym (c .before .before .before .before .before .before .before .before .before .content .ensures) ∙ c .before .before .before .before .before .before .before .enum-told .given .1 in
-    let k : Content g (a .m) = clear-content g (a .m) e in
-    let d : Counted (g .steps) (g .people) (g .roles) = k .counted in
-    omega (arith, c .arrow-count .ensures .1)
-
-mul-size-3 : tie.Need-mul-size-3
-mul-size-3 c = search needs
-
-add-size-3 : tie.Need-add-size-3
-add-size-3 c =
-    let a = c .before .before .before .before .before .before .before .before .before .before .before .args in
-    let g : Graph = graphOf (a .g .now) in
-    let e : first (contentLines g (a .m)) ≡ Verdict.Clear = sym (c .before .before .before .before .before .before .before .before .before .content .ensures) ∙ c .before .before .before .before .before .before .before .enum-told .given .1 in
-    let k : Content g (a .m) = clear-content g (a .m) e in
-    let d : Counted (g .steps) (g .people) (g .roles) = k .counted in
-    omega (arith, c .arrow-count .ensures .1)
+size-said : (c : tie.After-size) → c .size .result ≡ length (sheetBytes (graph (told c)) (marking (told c)))
+size-said c = c .size .ensures ∙ sym (sheet-length (graph (told c)) (marking (told c)))
 
 returns-2 : tie.Need-returns-2
 returns-2 c =
-    let a = c .before .before .before .before .before .before .before .before .before .before .before .before .args in
-    let g : Graph = graphOf (a .g .now) in
-    let e : first (contentLines g (a .m)) ≡ Verdict.Clear = sym (c .before .before .before .before .before .before .before .before .before .before .content .ensures) ∙ c .before .before .before .before .before .before .before .before .enum-told .given .1 in
-    let k : Content g (a .m) = clear-content g (a .m) e in
-    let d : Counted (g .steps) (g .people) (g .roles) = k .counted in
-    let n : c .before .arrow-count .result ≡ countIn g = c .before .arrow-count .ensures .0 ∙ ap (countWith g) (c .before .before .before .turned .ensures) in
-    let z : length (sheetBytes g (a .m)) ≡ 53 + 2 * g .steps + 2 * g .people + 3 * countIn g = sheet-length g (a .m) k in
-    let w = write-short g (a .m) (a .room .now) e (omega arith) in
-    (w .0, w .1)
+    let sized = c .before in
+    let t = told sized in
+    let w = write-short (graph t) (marking t) (start t .args .room .now) (clear t) (omega (arith, size-said sized)) in
+    (w .answer, w .room)
 
 fill-requires : tie.Need-fill-requires
 fill-requires c κs =
-    let a = c .before .before .before .before .before .before .before .before .before .before .before .before .before .before .args in
-    let g : Graph = graphOf (a .g .now) in
-    let e : first (contentLines g (a .m)) ≡ Verdict.Clear = sym (c .before .before .before .before .before .before .before .before .before .before .before .before .content .ensures) ∙ c .before .before .before .before .before .before .before .before .before .before .enum-told .given .1 in
-    let k : Content g (a .m) = clear-content g (a .m) e in
-    let d : Counted (g .steps) (g .people) (g .roles) = k .counted in
-    let n : c .before .before .before .arrow-count .result ≡ countIn g = c .before .before .before .arrow-count .ensures .0 ∙ ap (countWith g) (c .before .before .before .before .before .turned .ensures) in
-    let z : length (sheetBytes g (a .m)) ≡ 53 + 2 * g .steps + 2 * g .people + 3 * countIn g = sheet-length g (a .m) k in
-    (d .steps-most, d .people-most, c .before .before .before .arrow-count .ensures .0, omega arith)
+    let sized = c .before .before .before in
+    let t = told sized in
+    ((graph-clear (graph t) (marking t) (clear t), sized .before .before .turned .ensures), (sized .size .ensures, search needs))
 
 same-length : tie.Need-same-length
 same-length c = search needs
 
 returns-3 : tie.Need-returns-3
 returns-3 c =
-    let a = c .before .before .before .before .before .before .before .before .before .before .before .before .before .before .before .before .before .args in
-    let g : Graph = graphOf (a .g .now) in
-    let e : first (contentLines g (a .m)) ≡ Verdict.Clear = sym (c .before .before .before .before .before .before .before .before .before .before .before .before .before .before .before .content .ensures) ∙ c .before .before .before .before .before .before .before .before .before .before .before .before .before .enum-told .given .1 in
-    let k : Content g (a .m) = clear-content g (a .m) e in
-    let d : Counted (g .steps) (g .people) (g .roles) = k .counted in
-    let n : c .before .before .before .before .before .before .arrow-count .result ≡ countIn g = c .before .before .before .before .before .before .arrow-count .ensures .0 ∙ ap (countWith g) (c .before .before .before .before .before .before .before .before .turned .ensures) in
-    let z : length (sheetBytes g (a .m)) ≡ 53 + 2 * g .steps + 2 * g .people + 3 * countIn g = sheet-length g (a .m) k in
-    let t = c .before .before .before .before .before .before .before .before .turned .ensures in
-    let w = write-filled g (a .m) (a .room .now) _ _ _ e (omega arith)
-    (λ i. front (sizesWritten (g .steps) (g .people) (n i)) ++ bodiesWith g (t i) (a .m)) (c .before .before .fill .ensures) in
-    (w .0, w .1)
+    let filled = c .before .before in
+    let sized = filled .before .before .before .before in
+    let t = told sized in
+    let old = start t .args .room .now in
+    let w = write-done (graph t) (marking t) old (clear t) _ _ (omega (arith, size-said sized)) (filled .fill .ensures) in
+    (w .answer, w .room)
 
 pub write-spec : {M : Type 1} → statement M
 write-spec =
@@ -172,20 +92,8 @@ write-spec =
     enum-known-v
     returns
     enum-told
-    element-copy-out-steps
-    element-copy-out-people
-    cast-turned
-    sub-turned
-    part-turned-start
-    part-turned-end
     turned-requires
-    arrow-count-requires
-    mul-size
-    add-size
-    mul-size-2
-    add-size-2
-    mul-size-3
-    add-size-3
+    size-requires
     returns-2
     fill-requires
     same-length

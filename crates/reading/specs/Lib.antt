@@ -1,0 +1,4 @@
+pub mod Reading
+pub mod Laws
+pub mod Judged
+pub mod Filled

@@ -1,0 +1,40 @@
+-- `write_front`: the sizes are small. Assumes nothing.
+use Prim.Native.Nat.{_*_}
+use native.Mathlib.Omega.{arith}
+use lib.Dec.{lit<}
+use borrow.Author.Needs.{needs}
+use Rattle.writing.specs.Parts.{five-small}
+use Rattle.writing.proofs.write_front.Statement.{statement}
+use Rattle.writing.proofs.write_front.Tie as tie
+
+mul-t6 : tie.Need-mul-t6
+mul-t6 c = search needs
+
+mul-t7 : tie.Need-mul-t7
+mul-t7 c = search needs
+
+slice-aggregate-write : tie.Need-slice-aggregate-write
+slice-aggregate-write c = search needs
+
+write-requires : tie.Need-write-requires
+write-requires c κs =
+    let a = c .before .before .before .args in
+    let small = five-small 3 24 (2 * a .n) (2 * a .p) (a .arrows) (lit< tt) (lit< tt) (omega arith) (omega arith) (omega arith) in
+    (search needs, search needs, small)
+
+same-length : tie.Need-same-length
+same-length c = search needs
+
+returns : tie.Need-returns
+returns c = search needs
+
+pub write-front-spec : {M : Type 1} → statement M
+write-front-spec =
+    tie.close
+    (tie.spec
+    mul-t6
+    mul-t7
+    slice-aggregate-write
+    write-requires
+    same-length
+    returns)
