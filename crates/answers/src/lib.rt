@@ -4,6 +4,7 @@ use moves::Entry;
 use moves::Marking;
 
 pub mod endless;
+pub mod folded;
 pub mod lent;
 pub mod told;
 pub mod tracks;

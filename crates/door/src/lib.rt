@@ -16,7 +16,8 @@ ghost use Rattle.reading.specs.Reading.{firstOf};
 ghost use Rattle.sheet.specs.Sheet.{readVerdict, ifClear, blockRead, theWritten, roomAfter, numberOfWritten, lengthOfWritten};
 ghost use Rattle.tracker.specs.Tracker.{theStart, theIdle, theStep, numberOfTracked, stepOfTracked};
 ghost use Rattle.answers.specs.Values.{finishedOfEnding, endedOfWalked, lengthOfSpelling};
-ghost use Rattle.answers.specs.Lent.{markingIn, markingWords, keptOut, recordIn, recordOf, spellVerdict, bytesOut, wordsOut};
+ghost use Rattle.answers.specs.Lent.{markingIn, markingWords, keptOut};
+ghost use Rattle.answers.specs.Folded.{recordIn, recordOf, spellVerdict, bytesOut, wordsOut};
 ghost use Rattle.answers.specs.Tracks.{trackIn, noTrack, trackOfTracked};
 ghost use Rattle.answers.specs.Endless.{LapTold};
 use answers::Ending;
@@ -28,11 +29,15 @@ use answers::Track;
 use answers::Tracked;
 use answers::Walked;
 use answers::Written;
+use answers::folded;
 use answers::lent;
 use answers::told;
 use answers::tracks;
 use moves::Entry;
 use moves::Marking;
+use moves::Move;
+use moves::NONE;
+use moves::Verdict;
 use rules::Job;
 
 // Refusals 2, 4, 6.
@@ -51,7 +56,11 @@ pub extern "C" fn ulz_take(g: &Job, m: Marking, e: Entry) -> Moved
     ensures { λ r. ⌜ r .waiting ≡ stepOfMove (theMove (graphOf (now (g .entry))) m e) ⌝ }
     ensures { λ r. ⌜ r .marking ≡ markingOfMove (theMove (graphOf (now (g .entry))) m e) ⌝ }
 {
-    let o = rules::take(g, m, e);
+    let v = rules::check(g);
+    if let Verdict::Refused(r) = v {
+        return told::moved(Move::Refused(r, NONE));
+    }
+    let o = rules::inner::take_on(g, m, e);
     told::moved(o)
 }
 
@@ -126,7 +135,7 @@ pub extern "C" fn ulz_fold<'a, 'b, 'c>(g: &'a Job, journal: &'b [u8], out: &'c m
     ensures { λ r. ⌜ now (out .exit) ≡ bytesOut (theFold (graphOf (now (g .entry))) (now (journal .entry))) (now (out .entry)) ⌝ }
 {
     let o = folding::fold(g, journal);
-    lent::spell(o, out)
+    folded::spell(o, out)
 }
 
 // Refusals 2, 10.
@@ -140,10 +149,8 @@ pub extern "C" fn ulz_join<'a, 'b, 'c>(
     ensures { λ r. ⌜ r ≡ numberOfRecorded (theJoin n (recordIn (now (a .entry))) (recordIn (now (b .entry)))) ⌝ }
     ensures { λ r. ⌜ now (out .exit) ≡ bytesOut (theJoin n (recordIn (now (a .entry))) (recordIn (now (b .entry)))) (now (out .entry)) ⌝ }
 {
-    let earlier = lent::record_in(a);
-    let later = lent::record_in(b);
-    let o = earlier.join(later, n);
-    lent::spell(o, out)
+    let o = folded::join(n, a, b);
+    folded::spell(o, out)
 }
 
 // Refusals 2, 8, 10, 16.
@@ -153,8 +160,7 @@ pub extern "C" fn ulz_apply(n: u64, bytes: &[u8], m: Marking) -> Moved
     ensures { λ r. ⌜ r .waiting ≡ 0 ⌝ }
     ensures { λ r. ⌜ r .marking ≡ markingOfApplied (theApplication n (recordIn (now (bytes .entry))) m) ⌝ }
 {
-    let x = lent::record_in(bytes);
-    let o = x.apply(m, n);
+    let o = folded::apply(n, bytes, m);
     told::applied(o)
 }
 
@@ -165,7 +171,7 @@ pub extern "C" fn ulz_record_read<'a, 'b>(n: u64, bytes: &'a [u8], words: &'b mu
     ensures { λ r. ⌜ now (words .exit) ≡ wordsOut (theReading n (now (bytes .entry))) (now (words .entry)) ⌝ }
 {
     let o = spelling::read(n, bytes);
-    lent::spread(o, words)
+    folded::spread(o, words)
 }
 
 // Refusals 2, 10, 18.
@@ -179,8 +185,7 @@ pub extern "C" fn ulz_record_write<'a, 'b>(
     ensures { λ r. ⌜ r .length ≡ lengthOfSpelling (spellVerdict n (now (words .entry)) (now (room .entry))) ⌝ }
     ensures { λ r. ⌜ now (room .exit) ≡ roomOf (spellVerdict n (now (words .entry)) (now (room .entry))) (recordOf (now (words .entry))) (now (room .entry)) ⌝ }
 {
-    let x = lent::record_of(words);
-    let v = spelling::write(n, x, room);
+    let v = folded::write(n, words, room);
     told::spelt(v)
 }
 
@@ -197,7 +202,7 @@ pub extern "C" fn ulz_restore<'a, 'b, 'c>(
     ensures { λ r. ⌜ r .entries ≡ indexOfRun (theRestoring (graphOf (now (g .entry))) (recordIn (now (bytes .entry))) (now (journal .entry)) m) ⌝ }
     ensures { λ r. ⌜ r .marking ≡ markingOfRun (theRestoring (graphOf (now (g .entry))) (recordIn (now (bytes .entry))) (now (journal .entry)) m) ⌝ }
 {
-    let x = lent::record_in(bytes);
+    let x = folded::record_in(bytes);
     let o = folding::restore(g, x, journal, m);
     told::ran(o)
 }

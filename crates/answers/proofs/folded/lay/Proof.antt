@@ -1,8 +1,8 @@
 -- `lay`: word by word; never is 1 or 0. Assumes nothing.
 use borrow.Author.Needs.{needs}
 use Rattle.answers.specs.Laws.{as-flag}
-use Rattle.answers.proofs.lent.lay.Statement.{statement}
-use Rattle.answers.proofs.lent.lay.Tie as tie
+use Rattle.answers.proofs.folded.lay.Statement.{statement}
+use Rattle.answers.proofs.folded.lay.Tie as tie
 
 cast-t3 : tie.Need-cast-t3
 cast-t3 c = search needs

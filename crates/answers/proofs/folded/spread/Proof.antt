@@ -2,9 +2,9 @@
 use mathlib.Core.Path.{refl}
 use borrow.Author.Needs.{needs}
 use Rattle.records.specs.Answers.{numberOfRecorded}
-use Rattle.answers.specs.Lent.{wordsOut}
-use Rattle.answers.proofs.lent.spread.Statement.{statement}
-use Rattle.answers.proofs.lent.spread.Tie as tie
+use Rattle.answers.specs.Folded.{wordsOut}
+use Rattle.answers.proofs.folded.spread.Statement.{statement}
+use Rattle.answers.proofs.folded.spread.Tie as tie
 
 enum-known-o : tie.Need-enum-known-o
 enum-known-o c = search needs

@@ -5,9 +5,9 @@ use mathlib.Core.List.{append-nil}
 use lib.ListN.{length, drop-of-length-le}
 use borrow.Author.Needs.{needs}
 use Rattle.records.specs.Answers.{numberOfRecorded}
-use Rattle.answers.specs.Lent.{bytesOut}
-use Rattle.answers.proofs.lent.spell.Statement.{statement}
-use Rattle.answers.proofs.lent.spell.Tie as tie
+use Rattle.answers.specs.Folded.{bytesOut}
+use Rattle.answers.proofs.folded.spell.Statement.{statement}
+use Rattle.answers.proofs.folded.spell.Tie as tie
 
 enum-known-o : tie.Need-enum-known-o
 enum-known-o c = search needs
