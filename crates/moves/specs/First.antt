@@ -53,7 +53,7 @@ stepOf Room = 0
 
 -- both together
 unfoldable pub toldOf : Refusal → Told
-toldOf r = record { numberOfVerdict = numberOf r; step = stepOf r }
+toldOf r = record { number = numberOf r; step = stepOf r }
 
 -- a line of a call's table: a refusal, and whether it holds
 abbrev pub Line : Type 0
