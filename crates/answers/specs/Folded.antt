@@ -1,7 +1,7 @@
 -- Records in lent memory, as 65 bytes or as nine words: never, then the eight sets.
 use Prim.Native.Nat.{ℕ}
 use mathlib.Core.List.{List, _∷_}
-use mathlib.Core.Bool.{Bool, true, _&&_, cond}
+use mathlib.Core.Bool.{true, _&&_, cond}
 use lib.ListN.{length, getD}
 use lib.Dec.{eqb, leb}
 use Rattle.moves.specs.declared.Verdict.{Verdict}
@@ -17,11 +17,8 @@ spoilt =
     record { never = true; needin = 1; needex = 0; needout = 0; done = 0; dueset = 0; dueclear = 0; inset = 0; inclear = 0 }
 
 -- 65 bytes, of which the first is 0 or 1
-unfoldable pub isSpelt : List ℕ → Bool
-isSpelt bytes = eqb (length bytes) 65 && leb (getD bytes 0 0) 1
-
 unfoldable pub recordIn : List ℕ → Record
-recordIn bytes = cond (isSpelt bytes) (recordAt bytes) spoilt
+recordIn bytes = cond (eqb (length bytes) 65 && leb (getD bytes 0 0) 1) (recordAt bytes) spoilt
 
 unfoldable pub recordOf : List ℕ → Record
 recordOf words =

@@ -149,7 +149,9 @@ pub extern "C" fn ulz_join<'a, 'b, 'c>(
     ensures { λ r. ⌜ r ≡ numberOfRecorded (theJoin n (recordIn (now (a .entry))) (recordIn (now (b .entry)))) ⌝ }
     ensures { λ r. ⌜ now (out .exit) ≡ bytesOut (theJoin n (recordIn (now (a .entry))) (recordIn (now (b .entry)))) (now (out .entry)) ⌝ }
 {
-    let o = folded::join(n, a, b);
+    let earlier = folded::record_in(a);
+    let later = folded::record_in(b);
+    let o = earlier.join(later, n);
     folded::spell(o, out)
 }
 
@@ -160,7 +162,8 @@ pub extern "C" fn ulz_apply(n: u64, bytes: &[u8], m: Marking) -> Moved
     ensures { λ r. ⌜ r .waiting ≡ 0 ⌝ }
     ensures { λ r. ⌜ r .marking ≡ markingOfApplied (theApplication n (recordIn (now (bytes .entry))) m) ⌝ }
 {
-    let o = folded::apply(n, bytes, m);
+    let x = folded::record_in(bytes);
+    let o = x.apply(m, n);
     told::applied(o)
 }
 
@@ -185,7 +188,8 @@ pub extern "C" fn ulz_record_write<'a, 'b>(
     ensures { λ r. ⌜ r .length ≡ lengthOfSpelling (spellVerdict n (now (words .entry)) (now (room .entry))) ⌝ }
     ensures { λ r. ⌜ now (room .exit) ≡ roomOf (spellVerdict n (now (words .entry)) (now (room .entry))) (recordOf (now (words .entry))) (now (room .entry)) ⌝ }
 {
-    let v = folded::write(n, words, room);
+    let x = folded::record_of(words);
+    let v = spelling::write(n, x, room);
     told::spelt(v)
 }
 

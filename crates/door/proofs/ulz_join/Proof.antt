@@ -1,7 +1,13 @@
--- `ulz_join`: the join of what the bytes spell, and the bytes as it leaves them. Assumes nothing.
+-- `ulz_join`: the join of what the bytes spell. Assumes nothing.
 use borrow.Author.Needs.{needs}
 use Rattle.door.proofs.ulz_join.Statement.{statement}
 use Rattle.door.proofs.ulz_join.Tie as tie
+
+record-in-requires : tie.Need-record-in-requires
+record-in-requires c κs = search needs
+
+record-in-requires-2 : tie.Need-record-in-requires-2
+record-in-requires-2 c κs = search needs
 
 join-requires : tie.Need-join-requires
 join-requires c κs = search needs
@@ -10,7 +16,9 @@ spell-requires : tie.Need-spell-requires
 spell-requires c κs = search needs
 
 returns : tie.Need-returns
-returns c = rw (c .before .before .join .ensures) at (c .spell .ensures)
+returns c = rw (c .before .before .join .ensures, c .before .before .before .before .record-in .ensures, c .before .before .before .record-in2 .ensures) at (c .spell .ensures)
 
 pub ulz-join-spec : {M : Type 1} → statement M
-ulz-join-spec = tie.close (tie.spec join-requires spell-requires returns)
+ulz-join-spec =
+    tie.close
+    (tie.spec record-in-requires record-in-requires-2 join-requires spell-requires returns)

@@ -3,6 +3,9 @@ use borrow.Author.Needs.{needs}
 use Rattle.door.proofs.ulz_record_write.Statement.{statement}
 use Rattle.door.proofs.ulz_record_write.Tie as tie
 
+record-of-requires : tie.Need-record-of-requires
+record-of-requires c κs = search needs
+
 write-requires : tie.Need-write-requires
 write-requires c κs = search needs
 
@@ -14,9 +17,11 @@ same-length c = search needs
 
 returns : tie.Need-returns
 returns c =
+    let spelt = c .before .before .before .before .before .record-of .ensures in
     let written = c .before .before .before .write .ensures in
-    let told = rw (written .answer) at (c .spelt .ensures) in
-    (told .0, (told .1, written .room))
+    let told = rw (written .answer, spelt) at (c .spelt .ensures) in
+    (told .0, (told .1, rw spelt at (written .room)))
 
 pub ulz-record-write-spec : {M : Type 1} → statement M
-ulz-record-write-spec = tie.close (tie.spec write-requires spelt-requires same-length returns)
+ulz-record-write-spec =
+    tie.close (tie.spec record-of-requires write-requires spelt-requires same-length returns)
