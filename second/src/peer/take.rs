@@ -28,7 +28,7 @@ fn taken(g: &Graph, m: Marking, e: Entry) -> Result<Marking, Refusal> {
 /// The move on a graph and a marking that have been checked.
 #[inline]
 pub fn enter(g: &Graph, m: Marking, e: Entry) -> Result<Marking, Refusal> {
-    if u64::from(e.person) >= g.people || u64::from(e.step) >= g.steps || u64::from(e.role) >= g.roles {
+    if !known(g, e) {
         return Err(Refusal::Unknown);
     }
     let (person, step) = (usize::from(e.person), usize::from(e.step));
@@ -52,4 +52,10 @@ pub fn enter(g: &Graph, m: Marking, e: Entry) -> Result<Marking, Refusal> {
         due: (due & !this) | g.responses[step],
         included: (included | g.includes[step]) & !g.excludes[step],
     })
+}
+
+/// Person, step and role are below their counts, each of which fits into a byte where the graph has been checked.
+#[inline]
+pub fn known(g: &Graph, e: Entry) -> bool {
+    e.person < g.people as u8 && e.step < g.steps as u8 && e.role < g.roles as u8
 }

@@ -3,7 +3,9 @@ use crate::data::{Entry, Graph, Record};
 use crate::peer::{
     check::well_formed,
     journal::{entries, entry},
-    number, Refusal,
+    number,
+    take::known,
+    Refusal,
 };
 
 /// Writes the journal's record.
@@ -28,7 +30,7 @@ fn folded(g: &Graph, journal: &[u8]) -> Result<Record, Refusal> {
 /// With one entry more, unless none can follow here. Tidied once for all at the end.
 #[inline]
 fn longer(record: &Record, g: &Graph, e: Entry) -> Option<Record> {
-    if u64::from(e.person) >= g.people || u64::from(e.step) >= g.steps || u64::from(e.role) >= g.roles {
+    if !known(g, e) {
         return None;
     }
     let step = usize::from(e.step);
