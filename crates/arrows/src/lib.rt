@@ -145,7 +145,13 @@ pub fn size<'a>(n: u8, conditions: &'a [u64], table: &'a [u64]) -> usize
 }
 
 // Writes the arrows of the table, and gives the place after them.
-pub fn write<'a>(n: u8, conditions: &'a [u64], table: &'a [u64], room: &mut [u8], at: usize) -> usize
+pub fn write<'a>(
+    n: u8,
+    conditions: &'a [u64],
+    table: &'a [u64],
+    room: &mut [u8],
+    at: usize,
+) -> usize
     requires { ⌜ Kept n (now table) × (length (now table) ≡ 256) × (now conditions ≡ turnedIn n (now table)) ⌝ }
     requires { ⌜ at + length (arrowsBody (now table)) ≤ length (now room) ⌝ }
     ensures { λ r. ⌜ Spliced (arrowsBody (now (table .entry))) at (now (room .entry)) (now (room .exit)) r ⌝ }

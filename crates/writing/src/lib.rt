@@ -82,7 +82,13 @@ fn write_tables<'a>(g: &'a Job, turned: &'a [u64; 64], room: &mut [u8], at: usiz
     arrows::write(n as u8, turned, &w[CONDITIONS..ALLOWS], room, b)
 }
 
-fn write_bodies<'a>(g: &'a Job, turned: &'a [u64; 64], m: Marking, room: &mut [u8], at: usize) -> usize
+fn write_bodies<'a>(
+    g: &'a Job,
+    turned: &'a [u64; 64],
+    m: Marking,
+    room: &mut [u8],
+    at: usize,
+) -> usize
     requires { ⌜ (graphVerdict (graphOf (now g)) ≡ Verdict.Clear) × (now turned ≡ turnedOf (graphOf (now g))) ⌝ }
     requires { ⌜ at + length (bodiesOut (graphOf (now g)) m) ≤ length (now room) ⌝ }
     ensures { λ r. ⌜ Spliced (bodiesOut (graphOf (now (g .entry))) m) at (now (room .entry)) (now (room .exit)) r ⌝ }
@@ -93,7 +99,13 @@ fn write_bodies<'a>(g: &'a Job, turned: &'a [u64; 64], m: Marking, room: &mut [u
 }
 
 // Writes the whole sheet, of the size that is given, from the start of the room, and gives its length.
-pub fn fill<'a>(g: &'a Job, turned: &'a [u64; 64], m: Marking, size: usize, room: &mut [u8]) -> usize
+pub fn fill<'a>(
+    g: &'a Job,
+    turned: &'a [u64; 64],
+    m: Marking,
+    size: usize,
+    room: &mut [u8],
+) -> usize
     requires { ⌜ (graphVerdict (graphOf (now g)) ≡ Verdict.Clear) × (now turned ≡ turnedOf (graphOf (now g))) ⌝ }
     requires { ⌜ (size ≡ lengthOut (graphOf (now g))) × (size ≤ length (now room)) ⌝ }
     ensures { λ r. ⌜ Spliced (sheetBytes (graphOf (now (g .entry))) m) 0 (now (room .entry)) (now (room .exit)) r ⌝ }

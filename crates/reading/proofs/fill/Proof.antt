@@ -62,9 +62,11 @@ read-roles-requires c κs =
     let rows = table-rows start in
     let whole = start .pre .1 in
     let stored = counts-stored (start .args .block .now) (copied .before .before .before .counts .result) in
-    let n : length (bodyAt s 2) ≡ 2 * countsOf s .steps = body-length s (placed start) 2 (lit< tt) ∙ right start .matched .steps-match in
-    (search needs, omega (arith, ap length (c .before .body .ensures)),
-    omega (arith, spliced-length _ _ _ _ _ stored, copied .copy .ensures .next, spliced-length _ _ _ _ _ (copied .copy .ensures)))
+    let n : length (bodyAt s 2) ≡ 2 * countsOf s .steps = body-length s (placed start) 2 (lit< tt) ∙ right start .matched .steps-match in (
+      search needs,
+      omega (arith, ap length (c .before .body .ensures)),
+      omega (arith, spliced-length _ _ _ _ _ stored, copied .copy .ensures .next, spliced-length _ _ _ _ _ (copied .copy .ensures)),
+    )
 
 -- after the roles of the steps
 abbrev copied2 : tie.After-read-roles → tie.After-copy
@@ -82,10 +84,18 @@ read-roles-requires-2 c κs =
     let rows = table-rows start in
     let whole = start .pre .1 in
     let stored = counts-stored (start .args .block .now) (copied .before .before .before .counts .result) in
-    let n : length (bodyAt s 3) ≡ 2 * countsOf s .people = body-length s (placed start) 3 (lit< tt) ∙ right start .matched .people-match in
-    (search needs, omega (arith, ap length (c .before .body2 .ensures)),
-    omega (arith, spliced-length _ _ _ _ _ stored, copied .copy .ensures .next, spliced-length _ _ _ _ _ (copied .copy .ensures),
-    rows-next 64 _ _ _ _ _ (roles .read-roles .ensures), spliced-length _ _ _ _ _ (roles .read-roles .ensures)))
+    let n : length (bodyAt s 3) ≡ 2 * countsOf s .people = body-length s (placed start) 3 (lit< tt) ∙ right start .matched .people-match in (
+      search needs,
+      omega (arith, ap length (c .before .body2 .ensures)),
+      omega (
+        arith,
+        spliced-length _ _ _ _ _ stored,
+        copied .copy .ensures .next,
+        spliced-length _ _ _ _ _ (copied .copy .ensures),
+        rows-next 64 _ _ _ _ _ (roles .read-roles .ensures),
+        spliced-length _ _ _ _ _ (roles .read-roles .ensures),
+      ),
+    )
 
 same-length : tie.Need-same-length
 same-length c =

@@ -40,8 +40,14 @@ returns-4 c =
     let fit = first .before in
     let short = fit .before .before in
     let long = short .before in
-    simp (le-leb 29 _ (long .if1 .left), le-leb _ 37077 (short .if2 .left), sym (fit .before .fits2 .ensures) ∙ not-false _ (fit .if3 .left),
-    first .size .ensures .0, c .before .size2 .ensures .0, c .size3 .ensures .0)
+    simp (
+      le-leb 29 _ (long .if1 .left),
+      le-leb _ 37077 (short .if2 .left),
+      sym (fit .before .fits2 .ensures) ∙ not-false _ (fit .if3 .left),
+      first .size .ensures .0,
+      c .before .size2 .ensures .0,
+      c .size3 .ensures .0,
+    )
 
 pub layout-fits-spec : {M : Type 1} → statement M
 layout-fits-spec =

@@ -54,8 +54,14 @@ returns c =
     let marking = steps .before .before in
     let start = marking .before .before .before in
     let s = start .args .s .now in
-    simp (marking .fits2 .ensures, marking .before .first-marking .ensures,
-    steps .role-sets-fit .ensures, steps .before .body .ensures, c .role-sets-fit2 .ensures, c .before .body2 .ensures)
+    simp (
+      marking .fits2 .ensures,
+      marking .before .first-marking .ensures,
+      steps .role-sets-fit .ensures,
+      steps .before .body .ensures,
+      c .role-sets-fit2 .ensures,
+      c .before .body2 .ensures,
+    )
     (ap (λ (k : Counts). markingFits (k .steps) (firstOf s) && roleSetsFit (k .roles) (bodyAt s 2) && roleSetsFit (k .roles) (bodyAt s 3))
     (start .pre .0 .said))
 
