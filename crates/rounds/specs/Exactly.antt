@@ -1,5 +1,5 @@
--- A graph with its first marking has exactly one sheet: a list of bytes says them if and only if it is what is written of them. Every part of a sheet is made
--- of numbers as bytes, and of arrows whose kinds and steps are below 64. Assumes that the graph's tables have 64 and 16 rows.
+-- A job with its first marking has exactly one sheet: a list of bytes says them if and only if it is what is written of them. Every part of a sheet is made
+-- of numbers as bytes, and of arrows whose kinds and steps are below 64. Assumes that a block has 339 words.
 use Prim.Native.Nat.{ℕ, zero, suc, _+_, _/_, _%_, _≤_, _<_}
 use mathlib.Core.Path.{_≡_, sym, subst}
 use mathlib.Core.Logic.{_↔_}
@@ -11,15 +11,16 @@ use lib.Dec.{lit<}
 use Rattle.moves.specs.declared.Marking.{Marking}
 use Rattle.moves.specs.declared.Verdict.{Verdict}
 use Rattle.moves.specs.First.{first}
-use Rattle.rules.specs.Graph.{Graph}
 use Rattle.tables.specs.Tables.{row}
+use Rattle.rules.specs.Graph.{Graph, graphOf}
 use Rattle.numbers.specs.Numbers.{bytes, Bytes}
-use Rattle.arrows.specs.Arrows.{spelt, held, arrowAt, keptIf, listed, arrowsOf, fourTables}
+use Rattle.arrows.specs.Arrows.{spelt, held, arrowAt, keptIf, listed, arrowsOf, arrowsBody}
 use Rattle.layout.specs.Layout.{contents, joined, start, front}
 use Rattle.bodies.specs.Bodies.{countsBody, markingBody, rolesBody}
-use Rattle.sheet.specs.Sheet.{arrowsBody, bodiesOf, sheetBytes, contentLines}
-use Rattle.rounds.specs.Read.{Tables, read-written}
-use Rattle.rounds.specs.Write.{Says, one-sheet}
+use Rattle.writing.specs.Writing.{arrowTable, bodiesOf, sheetBytes, contentLines}
+use Rattle.rounds.specs.Says.{Says}
+use Rattle.rounds.specs.Read.{read-written}
+use Rattle.rounds.specs.Write.{one-sheet}
 
 -- ---- what is written is bytes
 
@@ -39,18 +40,23 @@ unfolding bytes
 number-is-bytes zero x = none-bytes
 number-is-bytes (suc w) x = more-bytes (x % 256) (bytes w (x / 256)) (omega arith) (number-is-bytes w (x / 256))
 
+-- three numbers, one after the other
+three-bytes : (u v w x y z : ℕ) → Bytes (bytes u x ++ (bytes v y ++ bytes w z))
+three-bytes u v w x y z =
+    append-bytes (bytes u x) (bytes v y ++ bytes w z) (number-is-bytes u x) (append-bytes (bytes v y) (bytes w z) (number-is-bytes v y) (number-is-bytes w z))
+
 contents-bytes : (kind offset : ℕ) (sizes : List ℕ) → Bytes (contents kind offset sizes)
 unfolding contents
 contents-bytes kind offset [] = none-bytes
 contents-bytes kind offset (size ∷ rest) =
     append-bytes (bytes 1 kind ++ (bytes 2 offset ++ bytes 2 size)) (contents (kind + 1) (offset + size) rest)
-    (append-bytes (bytes 1 kind) (bytes 2 offset ++ bytes 2 size) (number-is-bytes 1 kind) (append-bytes (bytes 2 offset) (bytes 2 size) (number-is-bytes 2 offset) (number-is-bytes 2 size)))
-    (contents-bytes (kind + 1) (offset + size) rest)
+    (three-bytes 1 2 2 kind offset size) (contents-bytes (kind + 1) (offset + size) rest)
 
 roles-bytes : (n : ℕ) (table : List ℕ) → Bytes (rolesBody n table)
 unfolding rolesBody
 roles-bytes zero table = none-bytes
-roles-bytes (suc k) table = append-bytes (rolesBody k table) (bytes 2 (row table k)) (roles-bytes k table) (number-is-bytes 2 (row table k))
+roles-bytes (suc k) table =
+    append-bytes (rolesBody k table) (bytes 2 (row table k)) (roles-bytes k table) (number-is-bytes 2 (row table k))
 
 -- the places below 16,384 are those of arrows that fit three bytes
 places-bytes : (k s : ℕ) (f : ℕ → Bool) → s + k ≤ 16384 → Bytes (spelt (map arrowAt (listed k s f)))
@@ -61,7 +67,8 @@ places-bytes (suc k) s f h = go (f s) (places-bytes k (suc s) f (omega arith))
     go : (b : Bool) → Bytes (spelt (map arrowAt (listed k (suc s) f))) → Bytes (spelt (map arrowAt (keptIf b s (listed k (suc s) f))))
     go true rest =
         more-bytes (s / 4096) (s / 64 % 64 ∷ s % 64 ∷ spelt (map arrowAt (listed k (suc s) f))) (omega arith)
-        (more-bytes (s / 64 % 64) (s % 64 ∷ spelt (map arrowAt (listed k (suc s) f))) (omega arith) (more-bytes (s % 64) (spelt (map arrowAt (listed k (suc s) f))) (omega arith) rest))
+        (more-bytes (s / 64 % 64) (s % 64 ∷ spelt (map arrowAt (listed k (suc s) f))) (omega arith)
+        (more-bytes (s % 64) (spelt (map arrowAt (listed k (suc s) f))) (omega arith) rest))
     go false rest = rest
 
 arrows-bytes : (rows : ℕ → ℕ) → Bytes (spelt (arrowsOf rows))
@@ -75,20 +82,21 @@ sheet-is-bytes g m =
     let counts : List ℕ = countsBody (g .steps) (g .people) (g .roles) in
     let allows : List ℕ = rolesBody (g .steps) (g .allows) in
     let holds : List ℕ = rolesBody (g .people) (g .holds) in
-    append-bytes (front sizes) (counts ++ (markingBody m ++ (allows ++ (holds ++ (arrowsBody g ++ [])))))
-    (append-bytes (bytes 1 (length sizes)) (contents 1 (start (length sizes)) sizes) (number-is-bytes 1 (length sizes)) (contents-bytes 1 (start (length sizes)) sizes))
-    (append-bytes counts (markingBody m ++ (allows ++ (holds ++ (arrowsBody g ++ []))))
-    (append-bytes (bytes 1 (g .steps)) (bytes 1 (g .people) ++ bytes 1 (g .roles)) (number-is-bytes 1 (g .steps)) (append-bytes (bytes 1 (g .people)) (bytes 1 (g .roles)) (number-is-bytes 1 (g .people)) (number-is-bytes 1 (g .roles))))
-    (append-bytes (markingBody m) (allows ++ (holds ++ (arrowsBody g ++ [])))
-    (append-bytes (bytes 8 (m .done)) (bytes 8 (m .due) ++ bytes 8 (m .included)) (number-is-bytes 8 (m .done)) (append-bytes (bytes 8 (m .due)) (bytes 8 (m .included)) (number-is-bytes 8 (m .due)) (number-is-bytes 8 (m .included))))
-    (append-bytes allows (holds ++ (arrowsBody g ++ [])) (roles-bytes (g .steps) (g .allows))
-    (append-bytes holds (arrowsBody g ++ []) (roles-bytes (g .people) (g .holds))
-    (append-bytes (arrowsBody g) [] (arrows-bytes (fourTables (g .conditions) (g .responses) (g .includes) (g .excludes))) none-bytes)))))
+    let arrows : List ℕ = arrowsBody (arrowTable g) in
+    let front-bytes = append-bytes (bytes 1 (length sizes)) (contents 1 (start (length sizes)) sizes) (number-is-bytes 1 (length sizes))
+    (contents-bytes 1 (start (length sizes)) sizes) in
+    append-bytes (front sizes) (counts ++ (markingBody m ++ (allows ++ (holds ++ (arrows ++ []))))) front-bytes
+    (append-bytes counts (markingBody m ++ (allows ++ (holds ++ (arrows ++ [])))) (three-bytes 1 1 1 (g .steps) (g .people) (g .roles))
+    (append-bytes (markingBody m) (allows ++ (holds ++ (arrows ++ []))) (three-bytes 8 8 8 (m .done) (m .due) (m .included))
+    (append-bytes allows (holds ++ (arrows ++ [])) (roles-bytes (g .steps) (g .allows))
+    (append-bytes holds (arrows ++ []) (roles-bytes (g .people) (g .holds))
+    (append-bytes arrows [] (arrows-bytes (row (arrowTable g))) none-bytes)))))
 
 -- ---- exactly one sheet
 
-pub exactly-one : (g : Graph) (m : Marking) → first (contentLines g m) ≡ Verdict.Clear → Tables g → (s : List ℕ) → (Bytes s × Says s g m) ↔ (s ≡ sheetBytes g m)
-exactly-one g m e sized s = (
-  λ p. one-sheet s g m (p .0) (p .1),
-  λ q. (subst Bytes (sym q) (sheet-is-bytes g m), subst (λ (t : List ℕ). Says t g m) (sym q) (read-written g m e sized)),
+pub exactly-one : (block : List ℕ) (m : Marking) → length block ≡ 339 → first (contentLines (graphOf block) m) ≡ Verdict.Clear → (s : List ℕ)
+    → (Bytes s × Says s block m) ↔ (s ≡ sheetBytes (graphOf block) m)
+exactly-one block m whole e s = (
+  λ p. one-sheet s block m (p .0) (p .1),
+  λ q. (subst Bytes (sym q) (sheet-is-bytes (graphOf block) m), subst (λ (t : List ℕ). Says t block m) (sym q) (read-written block m whole e)),
 )

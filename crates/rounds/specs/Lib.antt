@@ -1,3 +1,4 @@
+pub mod Says
 pub mod Smallest
 pub mod Numbers
 pub mod Tests

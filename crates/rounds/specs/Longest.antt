@@ -1,7 +1,8 @@
 -- The longest sheet has 37,077 bytes. Every part but the arrows has a length by the counts; a table has at most 64 arrows from each of 64 steps, and
 -- includes and excludes, which share no pair, have together no more than one table. One graph reaches it. Assumes nothing.
 use Prim.Native.Nat.{ℕ, zero, suc, _+_, _*_, _≤_, _<_}
-use mathlib.Core.Path.{_≡_, refl, sym, _∙_}
+use mathlib.Core.Path.{_≡_, refl, sym, ap, _∙_}
+use mathlib.Core.List.{List, _∷_, _++_}
 use mathlib.Core.Bool.{true, true≢false}
 use native.Mathlib.Omega.{arith}
 use lib.ListN.{length, replicate}
@@ -11,15 +12,16 @@ use Rattle.sets.specs.Laws.{has-meet, empty-members, every-at}
 use Rattle.moves.specs.declared.Marking.{Marking}
 use Rattle.moves.specs.declared.Verdict.{Verdict}
 use Rattle.moves.specs.First.{first}
-use Rattle.rules.specs.Graph.{Graph, setsFit}
-use Rattle.tables.specs.Tables.{row, keeps}
 use Rattle.moves.specs.Move.{noMarking}
+use Rattle.tables.specs.Tables.{row, keeps}
+use Rattle.rules.specs.Graph.{Graph, graphOf, setsFit}
 use Rattle.arrows.specs.Arrows.{put, putAll, listed}
 use Rattle.arrows.specs.Lists.{listed-apart}
-use Rattle.arrows.specs.Rows.{members, kindArrows, countOf, turned}
-use Rattle.arrows.specs.Loops.{count-most}
-use Rattle.sheet.specs.Sheet.{sheetBytes, contentLines}
-use Rattle.sheet.specs.Content.{Content, clear-content, turnedOf, countIn, sheet-length}
+use Rattle.arrows.specs.Rows.{members, kindArrows, countOf, turned, kindRows, fromRows, countKinds}
+use Rattle.arrows.specs.Loops.{count-most, length-body}
+use Rattle.writing.specs.Writing.{arrowTable, sheetBytes, contentLines}
+use Rattle.writing.specs.Laws.{Fitting, clear-fitting, graph-clear, turnedOf, table-kept, kind-lies}
+use Rattle.writing.specs.Parts.{arrowsOut, lengthOut, sheet-length}
 
 -- two tables that share no pair have no more arrows than one may have
 count-apart : (n : ℕ) (p q : ℕ → ℕ) → ((a : ℕ) → a < n → empty (meet (p a) (q a)) ≡ true) → countOf n p + countOf n q ≤ 64 * n
@@ -32,39 +34,47 @@ count-apart (suc n) p q apart =
     (λ s e f. true≢false (sym (has-meet (p n) (q n) s ∙ and-intro e f) ∙ empty-members (meet (p n) (q n)) (apart n (omega arith)) s)) in
     omega arith
 
-pub longest : (g : Graph) (m : Marking) → first (contentLines g m) ≡ Verdict.Clear → length (sheetBytes g m) ≤ 37077
-longest g m e =
-    let c : Content g m = clear-content g m e in
-    let size : length (sheetBytes g m) ≡ 53 + 2 * g .steps + 2 * g .people + 3 * countIn g = sheet-length g m c in
-    let first : countOf (g .steps) (row (turnedOf g)) ≤ 64 * g .steps = count-most (g .steps) (row (turnedOf g)) in
-    let second : countOf (g .steps) (row (g .responses)) ≤ 64 * g .steps = count-most (g .steps) (row (g .responses)) in
-    let both : countOf (g .steps) (row (g .includes)) + countOf (g .steps) (row (g .excludes)) ≤ 64 * g .steps =
-    count-apart (g .steps) (row (g .includes)) (row (g .excludes)) (every-at (g .steps) (λ a. empty (meet (row (g .includes) a) (row (g .excludes) a))) (c .apart)) in
-    let steps : g .steps ≤ 64 = c .counted .steps-most in
-    let people : g .people ≤ 16 = c .counted .people-most in
+-- how long the arrows are, kind by kind
+arrows-long : (block : List ℕ) (m : Marking) → first (contentLines (graphOf block) m) ≡ Verdict.Clear
+    → length (arrowsOut (graphOf block)) ≡ 3 * countKinds 4 (row block 0) (turnedOf (graphOf block)) (arrowTable (graphOf block))
+arrows-long block m e =
+    let g : Graph = graphOf block in
+    length-body (row block 0) (turnedOf g) (arrowTable g) (table-kept block (graph-clear g m e)) refl
+
+pub longest : (block : List ℕ) (m : Marking) → first (contentLines (graphOf block) m) ≡ Verdict.Clear → length (sheetBytes (graphOf block) m) ≤ 37077
+unfolding countKinds fromRows
+longest block m e =
+    let g : Graph = graphOf block in
+    let n : ℕ = row block 0 in
+    let t : List ℕ = arrowTable (graphOf block) in
+    let f : Fitting (graphOf block) = clear-fitting g (graph-clear g m e) in
+    let size : length (sheetBytes (graphOf block) m) ≡ lengthOut (graphOf block) = sheet-length g m in
+    let arrows : length (arrowsOut (graphOf block)) ≡ 3 * countKinds 4 (row block 0) (turnedOf (graphOf block)) (arrowTable (graphOf block)) =
+    arrows-long block m e in
+    let conditions : countOf (row block 0) (row (turnedOf (graphOf block))) ≤ 64 * row block 0 = count-most n (row (turnedOf g)) in
+    let responses : countOf (row block 0) (row (kindRows (arrowTable (graphOf block)) 1)) ≤ 64 * row block 0 = count-most n (row (kindRows t 1)) in
+    let in-place : countOf (row block 0) (row (kindRows (arrowTable (graphOf block)) 2)) ≡ countOf (row block 0) (row (g .includes)) =
+    ap (λ (l : List ℕ). countOf n (row l)) (kind-lies block 2 (omega arith)) in
+    let ex-place : countOf (row block 0) (row (kindRows (arrowTable (graphOf block)) 3)) ≡ countOf (row block 0) (row (g .excludes)) =
+    ap (λ (l : List ℕ). countOf n (row l)) (kind-lies block 3 (omega arith)) in
+    let both : countOf (row block 0) (row (g .includes)) + countOf (row block 0) (row (g .excludes)) ≤ 64 * row block 0 =
+    count-apart n (row (g .includes)) (row (g .excludes)) (every-at n (λ a. empty (meet (row (g .includes) a) (row (g .excludes) a))) (f .apart)) in
+    let steps : row block 0 ≤ 64 = f .counted .steps-most in
+    let people : row block 1 ≤ 16 = f .counted .people-most in
     omega arith
 
 -- ---- and it is reached
 
--- 64 steps, each waiting for each, with each its response and included by it
-unfoldable pub longestGraph : Graph
-longestGraph =
-    record {
-      steps = 64;
-      people = 16;
-      roles = 16;
-      allows = replicate 64 0;
-      holds = replicate 16 0;
-      conditions = replicate 64 (full 64);
-      responses = replicate 64 (full 64);
-      includes = replicate 64 (full 64);
-      excludes = replicate 64 0;
-    }
+-- 64 steps, each waiting for each, with each its response and included by it; no roles, and no excludes
+unfoldable pub longestBlock : List ℕ
+longestBlock = 64 ∷ 16 ∷ 16 ∷ (replicate 192 (full 64) ++ replicate 144 0)
 
-pub longest-clear : first (contentLines longestGraph noMarking) ≡ Verdict.Clear
-unfolding longestGraph first setsFit keeps every full
+pub longest-clear : first (contentLines (graphOf longestBlock) noMarking) ≡ Verdict.Clear
+unfolding longestBlock first setsFit keeps every full
 longest-clear = refl
 
-pub longest-reached : length (sheetBytes longestGraph noMarking) ≡ 37077
-unfolding longestGraph full turned kindArrows countOf putAll put listed has
-longest-reached = sheet-length longestGraph noMarking (clear-content longestGraph noMarking longest-clear) ∙ refl
+pub longest-reached : length (sheetBytes (graphOf longestBlock) noMarking) ≡ 37077
+unfolding longestBlock full turned kindArrows countOf countKinds fromRows putAll put listed has
+longest-reached =
+    let g : Graph = graphOf longestBlock in
+    sheet-length g noMarking ∙ ap (λ (n : ℕ). 53 + 2 * g .steps + 2 * g .people + n) (arrows-long longestBlock noMarking longest-clear)

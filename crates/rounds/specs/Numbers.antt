@@ -4,7 +4,7 @@ use Prim.Native.Nat.{ℕ, _≤_, _<_}
 use mathlib.Core.Path.{_≡_, refl, sym, ap, _∙_, subst}
 use mathlib.Core.Logic.{_↔_}
 use mathlib.Core.List.{List}
-use mathlib.Core.Bool.{Bool, true, false, not, _&&_}
+use mathlib.Core.Bool.{Bool, true, false, not, _&&_, true≢false}
 use native.Mathlib.Omega.{arith}
 use lib.ListN.{length}
 use lib.Dec.{ltb}
@@ -15,7 +15,9 @@ use Rattle.rules.specs.Graph.{Graph, setsFit}
 use Rattle.tables.specs.Tables.{countsFit, kindsApart}
 use Rattle.moves.specs.Move.{markingFits}
 use Rattle.moves.specs.Given.{holds, ascends, first-holds, first-lowest}
-use Rattle.sheet.specs.Sheet.{graphOf, layoutFits, countsRight, bodiesMatch, setsInside, arrowsRight, readLines, readVerdict, sheetBytes, writeLines, writeVerdict, writtenOf, theWritten, numberOfWritten, lengthOfWritten}
+use Rattle.reading.specs.Reading.{graphIn, layoutFits, countsRight, bodiesMatch, setsInside, arrowsRight, readLines, readVerdict}
+use Rattle.writing.specs.Writing.{sheetBytes}
+use Rattle.sheet.specs.Sheet.{writeLines, writeVerdict, writtenOf, theWritten, numberOfWritten, lengthOfWritten}
 use Rattle.sets.specs.Truth.{or-false}
 
 -- ---- any table whose numbers go up
@@ -61,7 +63,7 @@ nothing-exactly lines up = (there, back (first lines) refl)
 
     back : (v : Verdict) → first lines ≡ v → ((j : ℕ) → holds j lines ≡ false) → numberOfVerdict (first lines) ≡ 0
     back Verdict.Clear e none = ap numberOfVerdict e
-    back (Verdict.Refused r) e none = absurd (let z : _≡_ {A = Bool} true false = sym (first-holds lines r e) ∙ none (numberOf r) in let w : _≡_ {A = ℕ} 0 1 = cc in let x : ⊥ = omega arith in x)
+    back (Verdict.Refused r) e none = absurd (true≢false (sym (first-holds lines r e) ∙ none (numberOf r)))
 
 -- ---- reading
 
@@ -99,9 +101,9 @@ module _ (s : List ℕ) where
   unfolding holds numberOf
   read-5 = or-false (not (arrowsRight s))
 
-  pub read-6 : holds 6 (readLines s) ≡ not (kindsApart (graphOf s .steps) (graphOf s .includes) (graphOf s .excludes))
+  pub read-6 : holds 6 (readLines s) ≡ not (kindsApart (graphIn s .steps) (graphIn s .includes) (graphIn s .excludes))
   unfolding holds numberOf
-  read-6 = or-false (not (kindsApart (graphOf s .steps) (graphOf s .includes) (graphOf s .excludes)))
+  read-6 = or-false (not (kindsApart (graphIn s .steps) (graphIn s .includes) (graphIn s .excludes)))
 
 -- ---- writing
 

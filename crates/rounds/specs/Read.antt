@@ -1,49 +1,44 @@
--- Reading what was written gives the graph and its first marking. The contents of a sheet lead to the bodies that it was laid out from; each body is read
--- back; and what stands for writing a graph (2, 4, 6) is what the reader asks for (1 to 6). Assumes that the graph's tables have 64 and 16 rows, as the
--- machine's have: that each row fits its word follows, since it names nothing beyond the counts.
-use Prim.Native.Nat.{ℕ, zero, suc, _+_, _*_, _^_, _≤_, _<_}
-use mathlib.Core.Path.{_≡_, refl, sym, ap, ap₂, _∙_, subst}
-use mathlib.Core.List.{List, []}
+-- Reading what was written gives the job and its first marking. The contents of a sheet lead to the bodies that it was laid out from; each body is read
+-- back; and what stands for writing (2, 4, 6) is what the reader asks for (1 to 6). Assumes that a block has 339 words, as every lent one has.
+use Prim.Native.Nat.{ℕ, _+_, _*_, _^_, _≤_, _<_}
+use mathlib.Core.Path.{_≡_, sym, ap, ap₂, _∙_}
+use mathlib.Core.List.{List, [], _∷_, _++_}
 use mathlib.Core.Bool.{true}
 use native.Mathlib.Nat.{lt-of-lt-of-le}
 use native.Mathlib.Omega.{arith}
 use lib.ListN.{length, getD}
-use lib.Dec.{eqb}
 use lib.Pow.{pow-mono}
 use borrow.Author.Tests.{eq-eqb, not-false}
-use Rattle.sets.specs.Truth.{and-right, and-intro}
+use Rattle.sets.specs.Truth.{and-intro}
 use Rattle.moves.specs.declared.Marking.{Marking}
 use Rattle.moves.specs.declared.Verdict.{Verdict}
 use Rattle.moves.specs.First.{first}
-use Rattle.rules.specs.Graph.{Graph}
-use Rattle.tables.specs.Tables.{row, countsFit, kindsApart}
-use Rattle.tables.specs.Gathered.{Sized}
-use Rattle.moves.specs.Move.{markingFits, noMarking}
 use Rattle.moves.specs.Given.{clear-head}
-use Rattle.moves.specs.Inside.{Inside, inside-fits}
-use Rattle.tables.specs.Laws.{keeps-row, keeps-gone}
-use Rattle.arrows.specs.Arrows.{Arrow, arrowsFit, arrowsIn, tableOf, arrowsOf, pick, fourTables}
+use Rattle.moves.specs.Inside.{Inside, fits-inside}
+use Rattle.moves.specs.Move.{markingFits}
+use Rattle.tables.specs.Tables.{row, tableAt, countsFit, kindsApart}
+use Rattle.tables.specs.Laws.{rows-at}
+use Rattle.rules.specs.Graph.{Graph, graphOf}
+use Rattle.rules.specs.Block.{kinds-joined, block-whole}
+use Rattle.arrows.specs.Arrows.{Arrow, arrowsFit, arrowsIn, tableOf, arrowsOf, arrowsBody}
 use Rattle.arrows.specs.Places.{arrowsIn-spelt, length-spelt}
-use Rattle.arrows.specs.Rows.{Kept}
-use Rattle.layout.specs.Layout.{contentsFit, follows, offsetAt, sizeAt, bodyAt}
+use Rattle.layout.specs.Layout.{contentsFit, offsetAt, sizeAt, bodyAt}
 use Rattle.layout.specs.Lists.{length-part}
-use Rattle.layout.specs.Laws.{bodiesFrom, laid-fits, laid-bodies, body-inside}
+use Rattle.layout.specs.Laws.{bodiesFrom, laid-fits, laid-bodies}
 use Rattle.bodies.specs.declared.Counts.{Counts}
-use Rattle.bodies.specs.Bodies.{countsBody, countsIn, markingBody, markingIn, rolesBody, setsIn, roleSetsFit, quarter}
+use Rattle.bodies.specs.Bodies.{countsBody, countsIn, markingBody, markingIn, rolesBody, setsIn, roleSetsFit}
 use Rattle.bodies.specs.Laws.{length-counts, length-marking, length-roles}
-use Rattle.sheet.specs.Sheet.{arrowsBody, bodiesOf, sheetBytes, countsOf, firstOf, arrowsOn, graphOf, layoutFits, countsRight, bodiesMatch, setsInside, arrowsRight, readVerdict, noGraph, theSheet, contentLines}
-use Rattle.sheet.specs.Judge.{judged-clear, if-clear}
-use Rattle.sheet.specs.Content.{Content, clear-content, countIn, sheet-length}
+use Rattle.reading.specs.Reading.{countsOf, firstOf, arrowsOn, blockRead, graphIn, layoutFits, countsRight, bodiesMatch, setsInside, arrowsRight, kindsRight}
+use Rattle.reading.specs.Reading.{readVerdict}
+use Rattle.reading.specs.Laws.{contents-inside}
+use Rattle.writing.specs.Writing.{arrowTable, bodiesOf, sheetBytes, contentLines}
+use Rattle.writing.specs.Laws.{Fitting, clear-fitting, graph-clear, marking-clear, part-kept}
+use Rattle.writing.specs.Parts.{lengthOut, sheet-length}
+use Rattle.rounds.specs.Says.{Says}
 use Rattle.rounds.specs.Tests.{layout-exactly}
-use Rattle.rounds.specs.Bodies.{counts-read, marking-read, roles-read, roles-fit}
-use Rattle.rounds.specs.Arrows.{four-fit, four-read}
+use Rattle.rounds.specs.Bodies.{counts-read, marking-read, kept-roles, roles-read, roles-fit}
+use Rattle.rounds.specs.Arrows.{table-fit, table-read}
 use Rattle.rounds.specs.Longest.{longest}
-
--- the tables have as many rows as the machine's
-pub record Tables (g : Graph) : Type 0 where
-  pub allows-sized : length (g .allows) ≡ 64
-  pub holds-sized : length (g .holds) ≡ 16
-  pub arrows-sized : Sized 64 (g .conditions) (g .responses) (g .includes) (g .excludes)
 
 -- the contents fit, and lead to the bodies of the graph and the marking
 record Carries (g : Graph) (m : Marking) (s : List ℕ) : Type 0 where
@@ -54,16 +49,18 @@ record Carries (g : Graph) (m : Marking) (s : List ℕ) : Type 0 where
   two : bodyAt s 1 ≡ markingBody m
   three : bodyAt s 2 ≡ rolesBody (g .steps) (g .allows)
   four : bodyAt s 3 ≡ rolesBody (g .people) (g .holds)
-  five : bodyAt s 4 ≡ arrowsBody g
+  five : bodyAt s 4 ≡ arrowsBody (arrowTable g)
 
-carried : (g : Graph) (m : Marking) → first (contentLines g m) ≡ Verdict.Clear → Carries g m (sheetBytes g m)
+carried : (block : List ℕ) (m : Marking) → first (contentLines (graphOf block) m) ≡ Verdict.Clear
+    → Carries (graphOf block) m (sheetBytes (graphOf block) m)
 unfolding sheetBytes bodiesFrom
-carried g m e =
-    let size : length (sheetBytes g m) ≡ 53 + 2 * g .steps + 2 * g .people + 3 * countIn g = sheet-length g m (clear-content g m e) in
-    let most : length (sheetBytes g m) ≤ 37077 = longest g m e in
-    let small : length (sheetBytes g m) < 65536 = omega arith in
-    let few : length (bodiesOf g m) < 256 = omega arith in
-    let bodies : bodiesFrom 5 0 (sheetBytes g m) ≡ bodiesOf g m = laid-bodies (bodiesOf g m) small few in
+carried block m e =
+    let g : Graph = graphOf block in
+    let size : length (sheetBytes (graphOf block) m) ≡ lengthOut (graphOf block) = sheet-length g m in
+    let most : length (sheetBytes (graphOf block) m) ≤ 37077 = longest block m e in
+    let small : length (sheetBytes (graphOf block) m) < 65536 = omega arith in
+    let few : length (bodiesOf (graphOf block) m) < 256 = omega arith in
+    let bodies : bodiesFrom 5 0 (sheetBytes (graphOf block) m) ≡ bodiesOf (graphOf block) m = laid-bodies (bodiesOf g m) small few in
     record {
       fits = laid-fits (bodiesOf g m) small few;
       long = omega arith;
@@ -75,102 +72,78 @@ carried g m e =
       five = ap (λ (l : List (List ℕ)). getD l 4 []) bodies;
     }
 
-module _ (g : Graph) (m : Marking) (e : first (contentLines g m) ≡ Verdict.Clear) (sized : Tables g) (s : List ℕ) (k : Carries g m s) where
-  content : Content g m
-  content = clear-content g m e
+module _ (block : List ℕ) (m : Marking) (whole : length block ≡ 339) (e : first (contentLines (graphOf block) m) ≡ Verdict.Clear)
+    (s : List ℕ) (k : Carries (graphOf block) m s) where
+  abbrev g : Graph
+  g = graphOf block
+
+  fitting : Fitting (graphOf block)
+  fitting = clear-fitting (graphOf block) (graph-clear (graphOf block) m e)
 
   -- ---- what is read
 
   counts-back : countsOf s ≡ record { steps = g .steps; people = g .people; roles = g .roles }
   counts-back =
-      let a : g .steps ≤ 64 = content .counted .steps-most in
-      let b : g .people ≤ 16 = content .counted .people-most in
-      let c : g .roles ≤ 16 = content .counted .roles-most in
+      let a : row block 0 ≤ 64 = fitting .counted .steps-most in
+      let b : row block 1 ≤ 16 = fitting .counted .people-most in
+      let c : row block 2 ≤ 16 = fitting .counted .roles-most in
       ap countsIn (k .one) ∙ counts-read (g .steps) (g .people) (g .roles) (omega arith) (omega arith) (omega arith)
 
   first-back : firstOf s ≡ m
   first-back =
-      let in-word : 2 ^ g .steps ≤ 2 ^ 64 = pow-mono (content .counted .steps-most) in
-      let i : Inside (g .steps) m = content .marking-in in
-      ap markingIn (k .two) ∙ marking-read m (lt-of-lt-of-le (i .done-in) in-word) (lt-of-lt-of-le (i .due-in) in-word) (lt-of-lt-of-le (i .included-in) in-word)
+      let in-word : 2 ^ row block 0 ≤ 2 ^ 64 = pow-mono (fitting .counted .steps-most) in
+      let i : Inside (row block 0) m = fits-inside (g .steps) m (marking-clear g m e) in
+      ap markingIn (k .two)
+      ∙ marking-read m (lt-of-lt-of-le (i .done-in) in-word) (lt-of-lt-of-le (i .due-in) in-word) (lt-of-lt-of-le (i .included-in) in-word)
 
-  role-words : 2 ^ g .roles ≤ 2 ^ 16
-  role-words = pow-mono (content .counted .roles-most)
+  allows-rows : length (tableAt 259 64 block) ≡ 64
+  allows-rows = rows-at 259 64 block (omega arith)
 
-  allows-small : (i : ℕ) → row (g .allows) i < 65536
-  allows-small i = lt-of-lt-of-le (keeps-row (g .steps) (g .roles) (g .allows) (content .allows-kept) i) role-words
-
-  holds-small : (i : ℕ) → row (g .holds) i < 65536
-  holds-small i = lt-of-lt-of-le (keeps-row (g .people) (g .roles) (g .holds) (content .holds-kept) i) role-words
-
-  allows-gone : (i : ℕ) → g .steps ≤ i → row (g .allows) i ≡ 0
-  allows-gone = keeps-gone (g .steps) (g .roles) (g .allows) (content .allows-kept)
-
-  holds-gone : (i : ℕ) → g .people ≤ i → row (g .holds) i ≡ 0
-  holds-gone = keeps-gone (g .people) (g .roles) (g .holds) (content .holds-kept)
+  holds-rows : length (tableAt 323 16 block) ≡ 16
+  holds-rows = rows-at 323 16 block (omega arith)
 
   allows-back : setsIn 64 (bodyAt s 2) ≡ g .allows
-  allows-back = ap (setsIn 64) (k .three) ∙ roles-read (g .steps) 64 (g .allows) (sized .allows-sized) allows-small allows-gone
+  allows-back =
+      ap (setsIn 64) (k .three)
+      ∙ roles-read (g .steps) 64 (g .allows) allows-rows (kept-roles (g .steps) (g .roles) (g .allows) (fitting .counted .roles-most) (fitting .allows-kept))
 
   holds-back : setsIn 16 (bodyAt s 3) ≡ g .holds
-  holds-back = ap (setsIn 16) (k .four) ∙ roles-read (g .people) 16 (g .holds) (sized .holds-sized) holds-small holds-gone
+  holds-back =
+      ap (setsIn 16) (k .four)
+      ∙ roles-read (g .people) 16 (g .holds) holds-rows (kept-roles (g .people) (g .roles) (g .holds) (fitting .counted .roles-most) (fitting .holds-kept))
 
-  arrows-back : arrowsOn s ≡ arrowsOf (fourTables (g .conditions) (g .responses) (g .includes) (g .excludes))
-  arrows-back = ap arrowsIn (k .five) ∙ arrowsIn-spelt (arrowsOf (fourTables (g .conditions) (g .responses) (g .includes) (g .excludes)))
+  arrows-back : arrowsOn s ≡ arrowsOf (row (tableAt 3 256 block))
+  arrows-back =
+      ap arrowsIn (k .five)
+      ∙ arrowsIn-spelt (arrowsOf (row (arrowTable g)))
+      ∙ ap (λ (t : List ℕ). arrowsOf (row t)) (kinds-joined block)
 
-  kept : (kind : ℕ) → Kept (g .steps) (pick kind (g .conditions) (g .responses) (g .includes) (g .excludes))
-  unfolding pick
-  kept zero = content .conditions-kept
-  kept (suc zero) = content .responses-kept
-  kept (suc (suc zero)) = content .includes-kept
-  kept (suc (suc (suc kind))) = content .excludes-kept
+  table-back : tableOf (arrowsOn s) ≡ tableAt 3 256 block
+  table-back =
+      ap tableOf arrows-back
+      ∙ table-read (g .steps) (tableAt 3 256 block) (part-kept block (graph-clear g m e)) (rows-at 3 256 block (omega arith))
 
-  table-back : (kind : ℕ) → kind < 4 → length (pick kind (g .conditions) (g .responses) (g .includes) (g .excludes)) ≡ 64
-      → quarter (tableOf (arrowsOn s)) (kind * 64) ≡ pick kind (g .conditions) (g .responses) (g .includes) (g .excludes)
-  table-back kind l n =
-      ap (λ (a : List Arrow). quarter (tableOf a) (kind * 64)) arrows-back
-      ∙ four-read (g .steps) (g .conditions) (g .responses) (g .includes) (g .excludes) (content .counted .steps-most) kept kind l n
-
-  graph-back : graphOf s ≡ g
-  unfolding pick
-  graph-back =
-      let c : quarter (tableOf (arrowsOn s)) 0 ≡ g .conditions = table-back 0 (omega arith) (sized .arrows-sized .first) in
-      let r : quarter (tableOf (arrowsOn s)) 64 ≡ g .responses = table-back 1 (omega arith) (sized .arrows-sized .second) in
-      let i : quarter (tableOf (arrowsOn s)) 128 ≡ g .includes = table-back 2 (omega arith) (sized .arrows-sized .third) in
-      let x : quarter (tableOf (arrowsOn s)) 192 ≡ g .excludes = table-back 3 (omega arith) (sized .arrows-sized .fourth) in
-      λ j.
-      record {
-        steps = counts-back j .steps;
-        people = counts-back j .people;
-        roles = counts-back j .roles;
-        allows = allows-back j;
-        holds = holds-back j;
-        conditions = c j;
-        responses = r j;
-        includes = i j;
-        excludes = x j;
-      }
+  block-back : blockRead s ≡ block
+  unfolding blockRead
+  block-back =
+      (λ i. counts-back i .steps ∷ counts-back i .people ∷ counts-back i .roles ∷ (table-back i ++ (allows-back i ++ holds-back i)))
+      ∙ block-whole block whole
 
   -- ---- and nothing is against it
 
-  inside : (i : ℕ) → i < 5 → offsetAt s i + sizeAt s i ≤ length s
-  inside i h =
-      subst (λ (j : ℕ). offsetAt s j + sizeAt s j ≤ length s) (let z : 0 + i ≡ i = omega arith in z)
-      (body-inside 5 0 26 s i (and-right (eqb (getD s 0 0) 5) (follows 5 0 26 s) (k .fits)) h)
-
   size-of : (i : ℕ) → i < 5 → sizeAt s i ≡ length (bodyAt s i)
-  size-of i h = sym (length-part (offsetAt s i) (sizeAt s i) s (inside i h))
+  size-of i h = sym (length-part (offsetAt s i) (sizeAt s i) s (contents-inside s (k .fits) i h))
 
   layout-fits : layoutFits s ≡ true
   layout-fits =
-      let arrows : List Arrow = arrowsOf (fourTables (g .conditions) (g .responses) (g .includes) (g .excludes)) in
-      let five : sizeAt s 4 ≡ 3 * length arrows = size-of 4 (omega arith) ∙ ap length (k .five) ∙ length-spelt arrows in
+      let arrows : List Arrow = arrowsOf (row (arrowTable g)) in
+      let five : sizeAt s 4 ≡ 3 * length (arrowsOf (row (arrowTable g))) = size-of 4 (omega arith) ∙ ap length (k .five) ∙ length-spelt arrows in
       layout-exactly s .1
       (record {
         long = k .long;
         short = k .short;
         fits = k .fits;
-        inside = inside;
+        inside = contents-inside s (k .fits);
         one = size-of 0 (omega arith) ∙ ap length (k .one) ∙ length-counts (g .steps) (g .people) (g .roles);
         two = size-of 1 (omega arith) ∙ ap length (k .two) ∙ length-marking m;
         five = omega arith;
@@ -178,7 +151,8 @@ module _ (g : Graph) (m : Marking) (e : first (contentLines g m) ≡ Verdict.Cle
 
   counts-right : countsRight s ≡ true
   counts-right =
-      ap (λ (c : Counts). countsFit (c .steps) (c .people) (c .roles)) counts-back ∙ not-false (countsFit (g .steps) (g .people) (g .roles)) (clear-head _ _ e)
+      ap (λ (c : Counts). countsFit (c .steps) (c .people) (c .roles)) counts-back
+      ∙ not-false (countsFit (g .steps) (g .people) (g .roles)) (clear-head _ _ e)
 
   bodies-match : bodiesMatch s ≡ true
   bodies-match =
@@ -190,33 +164,36 @@ module _ (g : Graph) (m : Marking) (e : first (contentLines g m) ≡ Verdict.Cle
 
   sets-inside : setsInside s ≡ true
   sets-inside =
-      let a : g .steps ≤ length (g .allows) = (let n : length (g .allows) ≡ 64 = sized .allows-sized in let l : g .steps ≤ 64 = content .counted .steps-most in omega arith) in
-      let b : g .people ≤ length (g .holds) = (let n : length (g .holds) ≡ 16 = sized .holds-sized in let l : g .people ≤ 16 = content .counted .people-most in omega arith) in
+      let few : row block 2 ≤ 16 = fitting .counted .roles-most in
+      let a : row block 0 ≤ length (tableAt 259 64 block) =
+      (let n : length (tableAt 259 64 block) ≡ 64 = allows-rows in let l : row block 0 ≤ 64 = fitting .counted .steps-most in omega arith) in
+      let b : row block 1 ≤ length (tableAt 323 16 block) =
+      (let n : length (tableAt 323 16 block) ≡ 16 = holds-rows in let l : row block 1 ≤ 16 = fitting .counted .people-most in omega arith) in
       and-intro
       (and-intro
-      (ap₂ (λ (c : Counts) (w : Marking). markingFits (c .steps) w) counts-back first-back ∙ inside-fits (g .steps) m (content .marking-in))
+      (ap₂ (λ (c : Counts) (w : Marking). markingFits (c .steps) w) counts-back first-back ∙ marking-clear g m e)
       (ap₂ (λ (c : Counts) (body : List ℕ). roleSetsFit (c .roles) body) counts-back (k .three)
-      ∙ roles-fit (g .steps) (g .roles) (g .allows) a (content .allows-kept) allows-small allows-gone))
+      ∙ roles-fit (g .steps) (g .roles) (g .allows) a few (fitting .allows-kept)))
       (ap₂ (λ (c : Counts) (body : List ℕ). roleSetsFit (c .roles) body) counts-back (k .four)
-      ∙ roles-fit (g .people) (g .roles) (g .holds) b (content .holds-kept) holds-small holds-gone)
+      ∙ roles-fit (g .people) (g .roles) (g .holds) b few (fitting .holds-kept))
 
   arrows-right : arrowsRight s ≡ true
   arrows-right =
       ap₂ (λ (c : Counts) (a : List Arrow). arrowsFit (c .steps) a) counts-back arrows-back
-      ∙ four-fit (g .steps) (g .conditions) (g .responses) (g .includes) (g .excludes) (content .counted .steps-most) kept
+      ∙ table-fit (g .steps) (tableAt 3 256 block) (part-kept block (graph-clear g m e))
+
+  kinds-right : kindsRight s ≡ true
+  kinds-right =
+      ap (λ (l : List ℕ). kindsApart (graphOf l .steps) (graphOf l .includes) (graphOf l .excludes)) block-back ∙ fitting .apart
 
   read-clear : readVerdict s ≡ Verdict.Clear
-  read-clear =
-      sym (judged-clear s (tableOf (arrowsOn s)) layout-fits counts-right bodies-match sets-inside arrows-right
-      (ap (λ (h : Graph). kindsApart (h .steps) (h .includes) (h .excludes)) graph-back ∙ content .apart) refl .right)
-
-  read-back : theSheet s ≡ record { verdict = Verdict.Clear; graph = g; first = m }
-  read-back =
-      let v : readVerdict s ≡ Verdict.Clear = read-clear in
-      let w : theSheet s .graph ≡ g = if-clear (readVerdict s) (graphOf s) noGraph read-clear ∙ graph-back in
-      let f : theSheet s .first ≡ m = if-clear (readVerdict s) (firstOf s) noMarking read-clear ∙ first-back in
-      λ i. record { verdict = v i; graph = w i; first = f i }
+  unfolding readVerdict first
+  read-clear = simp (layout-fits, counts-right, bodies-match, sets-inside, arrows-right, kinds-right)
 
 -- what was written is read back
-pub read-written : (g : Graph) (m : Marking) → first (contentLines g m) ≡ Verdict.Clear → Tables g → theSheet (sheetBytes g m) ≡ record { verdict = Verdict.Clear; graph = g; first = m }
-read-written g m e sized = read-back g m e sized (sheetBytes g m) (carried g m e)
+pub read-written : (block : List ℕ) (m : Marking) → length block ≡ 339 → first (contentLines (graphOf block) m) ≡ Verdict.Clear
+    → Says (sheetBytes (graphOf block) m) block m
+read-written block m whole e =
+    let s : List ℕ = sheetBytes (graphOf block) m in
+    let k : Carries (graphOf block) m (sheetBytes (graphOf block) m) = carried block m e in
+    record { clear = read-clear block m whole e s k; job = block-back block m whole e s k; marking = first-back block m whole e s k }

@@ -7,14 +7,16 @@ use Rattle.sets.specs.Sets.{has, every}
 use Rattle.moves.specs.declared.Marking.{Marking}
 use Rattle.moves.specs.declared.Verdict.{Verdict}
 use Rattle.moves.specs.First.{first}
-use Rattle.rules.specs.Graph.{Graph, setsFit}
 use Rattle.tables.specs.Tables.{keeps}
+use Rattle.rules.specs.Graph.{graphOf, setsFit}
 use Rattle.numbers.specs.Numbers.{number, bytes}
 use Rattle.layout.specs.Layout.{contents, joined, follows}
-use Rattle.arrows.specs.Arrows.{arrowsIn, spelt, allKnown, ascending, put, putAll, held, listed, arrowsOf, pick}
+use Rattle.arrows.specs.Arrows.{arrowsIn, spelt, allKnown, ascending, put, putAll, held, listed, arrowsOf}
 use Rattle.bodies.specs.Tables.{tabled}
 use Rattle.bodies.specs.Bodies.{rolesBody, roleSetsFit}
-use Rattle.sheet.specs.Sheet.{sheetBytes, layoutFits, readVerdict, ifClear, theSheet, contentLines}
+use Rattle.reading.specs.Reading.{layoutFits, readVerdict, blockRead}
+use Rattle.writing.specs.Writing.{sheetBytes, contentLines}
+use Rattle.rounds.specs.Says.{Says}
 
 -- 05 01 1A 00 03 00 02 1D 00 18 00 03 35 00 02 00 04 37 00 02 00 05 39 00 00 00, then 01 01 01, sixteen bytes 00, 01 and seven 00, 01 00, 01 00
 unfoldable pub smallest : List ℕ
@@ -22,20 +24,9 @@ smallest =
     (5 ∷ 1 ∷ 26 ∷ 0 ∷ 3 ∷ 0 ∷ 2 ∷ 29 ∷ 0 ∷ 24 ∷ 0 ∷ 3 ∷ 53 ∷ 0 ∷ 2 ∷ 0 ∷ 4 ∷ 55 ∷ 0 ∷ 2 ∷ 0 ∷ 5 ∷ 57 ∷ 0 ∷ 0 ∷ 0 ∷ [])
     ++ ((1 ∷ 1 ∷ 1 ∷ []) ++ (replicate 16 0 ++ ((1 ∷ replicate 7 0) ++ ((1 ∷ 0 ∷ []) ++ (1 ∷ 0 ∷ [])))))
 
--- one step, one person, one role, which the person holds and the step has; no arrow
-unfoldable pub smallestGraph : Graph
-smallestGraph =
-    record {
-      steps = 1;
-      people = 1;
-      roles = 1;
-      allows = 1 ∷ replicate 63 0;
-      holds = 1 ∷ replicate 15 0;
-      conditions = replicate 64 0;
-      responses = replicate 64 0;
-      includes = replicate 64 0;
-      excludes = replicate 64 0;
-    }
+-- one step, one person, one role; no arrow; the step has the role, and the person holds it
+unfoldable pub smallestBlock : List ℕ
+smallestBlock = 1 ∷ 1 ∷ 1 ∷ (replicate 256 0 ++ ((1 ∷ replicate 63 0) ++ (1 ∷ replicate 15 0)))
 
 -- the step is included
 unfoldable pub smallestMarking : Marking
@@ -45,14 +36,14 @@ pub smallest-long : length smallest ≡ 57
 unfolding smallest
 smallest-long = refl
 
-pub smallest-clear : first (contentLines smallestGraph smallestMarking) ≡ Verdict.Clear
-unfolding smallestGraph smallestMarking first setsFit keeps every
+pub smallest-clear : first (contentLines (graphOf smallestBlock) smallestMarking) ≡ Verdict.Clear
+unfolding smallestBlock smallestMarking first setsFit keeps every
 smallest-clear = refl
 
-pub smallest-written : sheetBytes smallestGraph smallestMarking ≡ smallest
-unfolding smallest smallestGraph smallestMarking sheetBytes bytes contents joined rolesBody spelt arrowsOf listed held has pick
+pub smallest-written : sheetBytes (graphOf smallestBlock) smallestMarking ≡ smallest
+unfolding smallest smallestBlock smallestMarking sheetBytes bytes contents joined rolesBody spelt arrowsOf listed held has
 smallest-written = refl
 
-pub smallest-read : theSheet smallest ≡ record { verdict = Verdict.Clear; graph = smallestGraph; first = smallestMarking }
-unfolding smallest smallestGraph smallestMarking readVerdict ifClear first layoutFits follows number roleSetsFit every arrowsIn allKnown ascending putAll put tabled
-smallest-read = refl
+pub smallest-read : Says smallest smallestBlock smallestMarking
+unfolding smallest smallestBlock smallestMarking readVerdict blockRead first layoutFits follows number roleSetsFit every arrowsIn allKnown ascending putAll put tabled
+smallest-read = record { clear = refl; job = refl; marking = refl }

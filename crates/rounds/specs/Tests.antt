@@ -1,10 +1,10 @@
 -- The tests of numbers 1, 2 and 4 in words: lengths and counts by their bounds, and each set by what it names. A number is below 2 ^ n exactly if the set that
 -- it stands for names nothing at or beyond n. Assumes nothing.
 use Prim.Native.Nat.{ℕ, _/_, _%_, _^_, _<_}
-use mathlib.Core.Path.{_≡_, sym, ap, _∙_}
+use mathlib.Core.Path.{_≡_, ap, _∙_}
 use mathlib.Core.Logic.{_↔_}
 use mathlib.Core.List.{List}
-use mathlib.Core.Bool.{Bool, true, cond, true≢false}
+use mathlib.Core.Bool.{Bool, true, cond}
 use native.Mathlib.Omega.{arith}
 use native.Mathlib.Decide.{decLt}
 use lib.ListN.{length}
@@ -12,16 +12,16 @@ use lib.Dec.{ltb}
 use borrow.Author.Tests.{lt-ltb, le-ltb, ltb-true, le-leb, eq-eqb}
 use Rattle.sets.specs.Sets.{has, within}
 use Rattle.sets.specs.Truth.{and-intro, is-false}
-use Rattle.sets.specs.Laws.{has-zero, member-below, lt-of-members, every-at, every-of}
+use Rattle.sets.specs.Laws.{member-below, lt-of-members, every-at, every-of}
 use Rattle.moves.specs.declared.Marking.{Marking}
 use Rattle.tables.specs.Tables.{row, keeps, countsFit}
 use Rattle.moves.specs.Move.{markingFits}
-use Rattle.tables.specs.Laws.{Counted, counts-bound, keeps-row, keeps-gone}
+use Rattle.tables.specs.Laws.{Counted, counts-bound, keeps-row, named-below}
 use Rattle.moves.specs.Inside.{Inside, fits-inside, inside-fits}
 use Rattle.layout.specs.Layout.{sizeAt}
 use Rattle.bodies.specs.Bodies.{setAt, roleSetsFit}
-use Rattle.sheet.specs.Sheet.{layoutFits}
-use Rattle.sheet.specs.Judge.{Placed, layout-placed}
+use Rattle.reading.specs.Reading.{layoutFits}
+use Rattle.reading.specs.Laws.{Placed, layout-placed}
 
 -- ---- 1 and 2
 
@@ -29,7 +29,10 @@ pub layout-exactly : (s : List ℕ) → (layoutFits s ≡ true) ↔ Placed s
 unfolding layoutFits
 layout-exactly s = (
   layout-placed s,
-  λ p. and-intro (and-intro (and-intro (and-intro (and-intro (le-leb 29 (length s) (p .long)) (le-leb (length s) 37077 (p .short))) (p .fits)) (eq-eqb (sizeAt s 0) 3 (p .one))) (eq-eqb (sizeAt s 1) 24 (p .two)))
+  λ p. and-intro
+      (and-intro
+      (and-intro (and-intro (and-intro (le-leb 29 (length s) (p .long)) (le-leb (length s) 37077 (p .short))) (p .fits)) (eq-eqb (sizeAt s 0) 3 (p .one)))
+      (eq-eqb (sizeAt s 1) 24 (p .two)))
       (eq-eqb (sizeAt s 4 % 3) 0 (p .five)),
 )
 
@@ -37,7 +40,8 @@ pub counts-exactly : (steps people roles : ℕ) → (countsFit steps people role
 counts-exactly steps people roles = (
   counts-bound steps people roles,
   λ c. and-intro
-      (and-intro (and-intro (le-leb 1 steps (c .steps-some)) (le-leb steps 64 (c .steps-most))) (and-intro (le-leb 1 people (c .people-some)) (le-leb people 16 (c .people-most))))
+      (and-intro (and-intro (le-leb 1 steps (c .steps-some)) (le-leb steps 64 (c .steps-most)))
+      (and-intro (le-leb 1 people (c .people-some)) (le-leb people 16 (c .people-most))))
       (and-intro (le-leb 1 roles (c .roles-some)) (le-leb roles 16 (c .roles-most))),
 )
 
@@ -58,12 +62,19 @@ within-exactly n x = (λ e. small-names n x (ltb-true x (2 ^ n) e), λ names. lt
 
 pub marking-exactly : (n : ℕ) (m : Marking) → (markingFits n m ≡ true) ↔ (Names n (m .done) × Names n (m .due) × Names n (m .included))
 marking-exactly n m = (
-  λ e. let i : Inside n m = fits-inside n m e in (small-names n (m .done) (i .done-in), small-names n (m .due) (i .due-in), small-names n (m .included) (i .included-in)),
-  λ p. inside-fits n m (record { done-in = names-small n (m .done) (p .0); due-in = names-small n (m .due) (p .1); included-in = names-small n (m .included) (p .2) }),
+  λ e. let i : Inside n m = fits-inside n m e in
+      (small-names n (m .done) (i .done-in), small-names n (m .due) (i .due-in), small-names n (m .included) (i .included-in)),
+  λ p. inside-fits n m
+      (record {
+        done-in = names-small n (m .done) (p .0);
+        due-in = names-small n (m .due) (p .1);
+        included-in = names-small n (m .included) (p .2);
+      }),
 )
 
 -- the role sets of a body
-pub role-sets-exactly : (roles : ℕ) (body : List ℕ) → (roleSetsFit roles body ≡ true) ↔ ((i : ℕ) → i < length body / 2 → Names roles (setAt body i))
+pub role-sets-exactly : (roles : ℕ) (body : List ℕ)
+    → (roleSetsFit roles body ≡ true) ↔ ((i : ℕ) → i < length body / 2 → Names roles (setAt body i))
 unfolding roleSetsFit
 role-sets-exactly roles body = (
   λ e i h. within-exactly roles (setAt body i) .0 (every-at (length body / 2) (λ j. within roles (setAt body j)) e i h),
@@ -71,22 +82,22 @@ role-sets-exactly roles body = (
 )
 
 -- a table: what row i names is below the limit, and i below the count
-pub keeps-exactly : (count limit : ℕ) (t : List ℕ) → (keeps count limit t ≡ true) ↔ ((i s : ℕ) → i < length t → has (row t i) s ≡ true → (i < count) × (s < limit))
+abbrev pub Keeps : ℕ → ℕ → List ℕ → Type 0
+Keeps count limit t = (i s : ℕ) → i < length t → has (row t i) s ≡ true → (i < count) × (s < limit)
+
+pub keeps-exactly : (count limit : ℕ) (t : List ℕ) → (keeps count limit t ≡ true) ↔ Keeps count limit t
 unfolding keeps
 keeps-exactly count limit t = (there, back)
   where
-    there : keeps count limit t ≡ true → (i s : ℕ) → i < length t → has (row t i) s ≡ true → (i < count) × (s < limit)
-    there e i s h f = (go (decLt i count), small-names limit (row t i) (keeps-row count limit t e i) s f)
-      where
-        go : Dec (i < count) → i < count
-        go (yes l) = l
-        go (no l) = absurd (true≢false (sym f ∙ ap (λ (x : ℕ). has x s) (keeps-gone count limit t e i (omega arith)) ∙ has-zero s))
+    there : keeps count limit t ≡ true → Keeps count limit t
+    there e i s h f = (named-below count limit t e i s f, small-names limit (row t i) (keeps-row count limit t e i) s f)
 
-    back : ((i s : ℕ) → i < length t → has (row t i) s ≡ true → (i < count) × (s < limit)) → keeps count limit t ≡ true
+    back : Keeps count limit t → keeps count limit t ≡ true
     back all = every-of (length t) (λ i. within (cond (ltb i count) limit 0) (row t i)) (λ i h. go i h (decLt i count))
       where
         go : (i : ℕ) → i < length t → Dec (i < count) → within (cond (ltb i count) limit 0) (row t i) ≡ true
-        go i h (yes l) = ap (λ (b : Bool). within (cond b limit 0) (row t i)) (lt-ltb i count l) ∙ within-exactly limit (row t i) .1 (λ s e. all i s h e .1)
+        go i h (yes l) =
+            ap (λ (b : Bool). within (cond b limit 0) (row t i)) (lt-ltb i count l) ∙ within-exactly limit (row t i) .1 (λ s e. all i s h e .1)
         go i h (no l) =
             ap (λ (b : Bool). within (cond b limit 0) (row t i)) (le-ltb i count (omega arith))
             ∙ within-exactly 0 (row t i) .1 (λ s e. absurd (let k : i < count = all i s h e .0 in let z : ⊥ = omega arith in z))

@@ -98,19 +98,25 @@ module _ (g : Graph) (m : Marking) (old : List ℕ) where
     write-short h =
         refused-room Room (room-tested ∙ ap (λ (b : Bool). cond b (Verdict.Refused Room) Verdict.Clear) (lt-ltb (length old) size h))
 
+    pub room-clear : size ≤ length old → writeVerdict g m (length old) ≡ Verdict.Clear
+    room-clear h = room-tested ∙ ap (λ (b : Bool). cond b (Verdict.Refused Room) Verdict.Clear) (le-ltb (length old) size h)
+
+    -- with room enough the length is answered, and the room begins with the sheet
+    pub clear-after : size ≤ length old
+        → (theWritten g m (length old) ≡ Written.Length size) × (roomAfter g m old ≡ sheetBytes g m ++ drop size old)
+    unfolding writtenOf
+    clear-after h = (
+      ap (λ (w : Verdict). writtenOf w size) (room-clear h),
+      if-clear (writeVerdict g m (length old)) (sheetBytes g m ++ drop size old) old (room-clear h),
+    )
+
     -- the sheet was written from the start of the room
     pub write-done : (new : List ℕ) (r : ℕ) → size ≤ length old → Spliced (sheetBytes g m) 0 old new r → Wrote new (Written.Length r)
-    unfolding writtenOf
     write-done new r h s =
-        let v : writeVerdict g m (length old) ≡ Verdict.Clear =
-        room-tested ∙ ap (λ (b : Bool). cond b (Verdict.Refused Room) Verdict.Clear) (le-ltb (length old) size h) in
         let n : r ≡ 0 + size = s .next in
         let z : 0 + size ≡ size = omega arith in
+        let whole = sets-eq (sheetBytes g m) old 0 (omega arith) ∙ ap (λ (k : ℕ). sheetBytes g m ++ drop k old) z in
         record {
-          answer = ap Written.Length (n ∙ z) ∙ sym (ap (λ (w : Verdict). writtenOf w size) v);
-          room =
-              s .stored
-              ∙ sets-eq (sheetBytes g m) old 0 (omega arith)
-              ∙ ap (λ (k : ℕ). sheetBytes g m ++ drop k old) z
-              ∙ sym (if-clear (writeVerdict g m (length old)) (sheetBytes g m ++ drop size old) old v);
+          answer = ap Written.Length (n ∙ z) ∙ sym (clear-after h .0);
+          room = s .stored ∙ whole ∙ sym (clear-after h .1);
         }

@@ -94,9 +94,10 @@ clear-fitting g e =
 abbrev pub turnedOf : Graph → List ℕ
 turnedOf g = turnedIn (g .steps) (arrowTable g)
 
-pub conditions-first : (block : List ℕ) → tableAt 3 64 block ≡ kindRows (arrowTable (graphOf block)) 0
-conditions-first block =
-    sym (table-of-table 3 256 0 64 block (omega arith)) ∙ ap (λ (t : List ℕ). kindRows t 0) (sym (kinds-joined block))
+-- where the rows of a kind lie
+pub kind-lies : (block : List ℕ) (kind : ℕ) → kind < 4 → kindRows (arrowTable (graphOf block)) kind ≡ tableAt (3 + kind * 64) 64 block
+kind-lies block kind h =
+    ap (λ (t : List ℕ). kindRows t kind) (kinds-joined block) ∙ table-of-table 3 256 (kind * 64) 64 block (omega arith)
 
 pub table-kept : (block : List ℕ) → graphVerdict (graphOf block) ≡ Verdict.Clear → Kept (row block 0) (arrowTable (graphOf block))
 table-kept block e =
@@ -104,8 +105,7 @@ table-kept block e =
       few = fitting .counted .steps-most;
       kinds =
           λ kind h. subst (λ (t : List ℕ). keeps (row block 0) (row block 0) t ≡ true)
-          (sym (table-of-table 3 256 (kind * 64) 64 block (omega arith)) ∙ ap (λ (t : List ℕ). kindRows t kind) (sym (kinds-joined block)))
-          (kind-kept kind h);
+          (sym (kind-lies block kind h)) (kind-kept kind h);
     }
   where
     fitting : Fitting (graphOf block)

@@ -1,6 +1,6 @@
 -- `turned`: the conditions are the first kind of the table. Assumes nothing.
 use Prim.Native.Nat.{ℕ, _≤_}
-use mathlib.Core.Path.{_≡_, ap, _∙_}
+use mathlib.Core.Path.{_≡_, sym, ap, _∙_}
 use mathlib.Core.List.{List}
 use native.Mathlib.Omega.{arith}
 use lib.ListN.{length}
@@ -10,7 +10,7 @@ use Rattle.tables.specs.Laws.{rows-at}
 use Rattle.rules.specs.Graph.{graphOf}
 use Rattle.rules.specs.Laws.{clear-counts}
 use Rattle.arrows.specs.Rows.{turned}
-use Rattle.writing.specs.Laws.{conditions-first}
+use Rattle.writing.specs.Laws.{kind-lies}
 use Rattle.writing.proofs.turned.Statement.{statement}
 use Rattle.writing.proofs.turned.Tie as tie
 
@@ -42,7 +42,7 @@ turned-requires c κs =
 returns : tie.Need-returns
 returns c =
     let block = c .before .before .before .before .args .g .now in
-    c .turned .ensures ∙ ap (λ (t : List ℕ). turned (row block 0) (row t)) (conditions-first block)
+    c .turned .ensures ∙ ap (λ (t : List ℕ). turned (row block 0) (row t)) (sym (kind-lies block 0 (omega arith)))
 
 pub turned-spec : {M : Type 1} → statement M
 turned-spec =

@@ -30,10 +30,6 @@ fn folded(g: &Graph, journal: &[u8]) -> Result<Record, Refusal> {
 /// With one entry more, unless none can follow here. Tidied once for all at the end.
 #[inline]
 fn longer(record: &Record, g: &Graph, e: Entry) -> Option<Record> {
-<<<<<<< HEAD
-    let (step, this, role) = (usize::from(e.step), 1u64 << e.step, 1u64 << e.role);
-    if !known(g, e) || g.holds[usize::from(e.person)] & g.allows[step] & role == 0 || record.in_clear & this != 0 {
-=======
     if !known(g, e) {
         return None;
     }
@@ -43,7 +39,6 @@ fn longer(record: &Record, g: &Graph, e: Entry) -> Option<Record> {
     }
     let this = 1u64 << e.step;
     if record.in_clear & this != 0 {
->>>>>>> 36b4c2b375433a83407d35afcb82eaaa36955699
         return None;
     }
     let open = g.conditions[step] & !(record.in_clear | record.done | record.need_ex);
