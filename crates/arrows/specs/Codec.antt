@@ -50,13 +50,15 @@ arrows-of-table n l h e =
     let up : upFrom 0 (map place l) ≡ true = fit-up n 0 l (fit-places n l h ∙ e) in
     ap (map arrowAt)
     (listed-same 16384 0 (λ p. held (row (tableOf l)) (arrowAt p)) (member (map place l))
-    (λ p i j. held-filled 256 l (known-in n l h k) (arrowAt p) (arrowAt-ranged p (omega arith)) ∙ ap (member (map place l)) (place-arrowAt p))
+    (λ p i j. held-filled 256 l (known-in n l h k) (arrowAt p) (arrowAt-ranged p (omega arith))
+    ∙ ap (member (map place l)) (place-arrowAt p))
     ∙ listed-members 16384 0 (map place l) up (known-below n l h k))
     ∙ map-arrowAt-place n l h k
 
 -- ---- the arrows of a table
 
-fit-listed : (n k s : ℕ) (f : ℕ → Bool) → ((p : ℕ) → p < s + k → f p ≡ true → known n (arrowAt p) ≡ true) → fitFrom n s (map arrowAt (listed k s f)) ≡ true
+fit-listed : (n k s : ℕ) (f : ℕ → Bool) → ((p : ℕ) → p < s + k → f p ≡ true → known n (arrowAt p) ≡ true)
+    → fitFrom n s (map arrowAt (listed k s f)) ≡ true
 unfolding fitFrom listed
 fit-listed n zero s f all = refl
 fit-listed n (suc k) s f all = go (f s) refl (fit-listed n k (suc s) f (λ p h. all p (omega arith)))
@@ -64,19 +66,24 @@ fit-listed n (suc k) s f all = go (f s) refl (fit-listed n k (suc s) f (λ p h. 
     weaker : (l : List Arrow) → fitFrom n (suc s) l ≡ true → fitFrom n s l ≡ true
     weaker [] e = refl
     weaker (x ∷ rest) e =
-        let both : (known n x && leb (suc s) (place x)) ≡ true = and-left (known n x && leb (suc s) (place x)) (fitFrom n (place x + 1) rest) e in
+        let both : (known n x && leb (suc s) (place x)) ≡ true =
+        and-left (known n x && leb (suc s) (place x)) (fitFrom n (place x + 1) rest) e in
         let low : suc s ≤ place x = leb-true (suc s) (place x) (and-right (known n x) (leb (suc s) (place x)) both) in
         and-intro (and-intro (and-left (known n x) (leb (suc s) (place x)) both) (le-leb s (place x) (omega arith)))
         (and-right (known n x && leb (suc s) (place x)) (fitFrom n (place x + 1) rest) e)
 
-    go : (b : Bool) → f s ≡ b → fitFrom n (suc s) (map arrowAt (listed k (suc s) f)) ≡ true → fitFrom n s (map arrowAt (keptIf b s (listed k (suc s) f))) ≡ true
+    go : (b : Bool) → f s ≡ b → fitFrom n (suc s) (map arrowAt (listed k (suc s) f)) ≡ true
+        → fitFrom n s (map arrowAt (keptIf b s (listed k (suc s) f))) ≡ true
     go true e rest =
-        and-intro (and-intro (all s (omega arith) e) (le-leb s (place (arrowAt s)) (let z : place (arrowAt s) ≡ s = place-arrowAt s in omega arith)))
-        (subst (λ (m : ℕ). fitFrom n m (map arrowAt (listed k (suc s) f)) ≡ true) (let z : suc s ≡ place (arrowAt s) + 1 = (let w : place (arrowAt s) ≡ s = place-arrowAt s in omega arith) in z) rest)
+        and-intro (and-intro (all s (omega arith) e)
+        (le-leb s (place (arrowAt s)) (let z : place (arrowAt s) ≡ s = place-arrowAt s in omega arith)))
+        (subst (λ (m : ℕ). fitFrom n m (map arrowAt (listed k (suc s) f)) ≡ true)
+        (let z : suc s ≡ place (arrowAt s) + 1 = (let w : place (arrowAt s) ≡ s = place-arrowAt s in omega arith) in z) rest)
     go false e rest = weaker (map arrowAt (listed k (suc s) f)) rest
 
 -- the arrows of a table fit, where each is between steps that there are
-pub arrows-fit : (n : ℕ) (rows : ℕ → ℕ) → n ≤ 64 → ((x : Arrow) → Ranged x → held rows x ≡ true → known n x ≡ true) → arrowsFit n (arrowsOf rows) ≡ true
+pub arrows-fit : (n : ℕ) (rows : ℕ → ℕ) → n ≤ 64 → ((x : Arrow) → Ranged x → held rows x ≡ true → known n x ≡ true)
+    → arrowsFit n (arrowsOf rows) ≡ true
 unfolding arrowsOf
 arrows-fit n rows h all =
     sym (fit-places n (map arrowAt (listed 16384 0 (λ p. held rows (arrowAt p)))) h)

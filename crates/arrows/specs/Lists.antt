@@ -43,10 +43,12 @@ unfolding listed
 listed-add zero b s f = ap₂ (λ (k t : ℕ). listed k t f) (let z : 0 + b ≡ b = omega arith in z) (let z : s ≡ s + 0 = omega arith in z)
 listed-add (suc a) b s f =
     ap (λ (k : ℕ). listed k s f) (suc-add a b)
-    ∙ ap (λ (l : List ℕ). keptIf (f s) s l) (listed-add a b (suc s) f ∙ ap (λ (t : ℕ). listed a (suc s) f ++ listed b t f) (let z : suc s + a ≡ s + suc a = omega arith in z))
+    ∙ ap (λ (l : List ℕ). keptIf (f s) s l)
+    (listed-add a b (suc s) f ∙ ap (λ (t : ℕ). listed a (suc s) f ++ listed b t f) (let z : suc s + a ≡ s + suc a = omega arith in z))
     ∙ split (f s)
   where
-    split : (c : Bool) → keptIf c s (listed a (suc s) f ++ listed b (s + suc a) f) ≡ keptIf c s (listed a (suc s) f) ++ listed b (s + suc a) f
+    split : (c : Bool) → keptIf c s (listed a (suc s) f ++ listed b (s + suc a) f) ≡ keptIf c s (listed a (suc s) f)
+        ++ listed b (s + suc a) f
     split true = refl
     split false = refl
 
@@ -55,14 +57,16 @@ pub listed-none : (k s : ℕ) (f : ℕ → Bool) → ((p : ℕ) → s ≤ p → 
 unfolding listed
 listed-none zero s f e = refl
 listed-none (suc k) s f e =
-    ap₂ (λ (b : Bool) (l : List ℕ). keptIf b s l) (e s (omega arith) (omega arith)) (listed-none k (suc s) f (λ p h l. e p (omega arith) (omega arith)))
+    ap₂ (λ (b : Bool) (l : List ℕ). keptIf b s l) (e s (omega arith) (omega arith))
+    (listed-none k (suc s) f (λ p h l. e p (omega arith) (omega arith)))
 
 -- the first that holds comes first
 pub listed-first : (r d : ℕ) (f : ℕ → Bool) → ((p : ℕ) → p < r → f p ≡ false) → f r ≡ true → listed (r + suc d) 0 f ≡ r ∷ listed d (suc r) f
 unfolding listed
 listed-first r d f none here =
     listed-add r (suc d) 0 f
-    ∙ ap₂ (λ (l : List ℕ) (t : ℕ). l ++ listed (suc d) t f) (listed-none r 0 f (λ p h l. none p (omega arith))) (let z : 0 + r ≡ r = omega arith in z)
+    ∙ ap₂ (λ (l : List ℕ) (t : ℕ). l ++ listed (suc d) t f) (listed-none r 0 f (λ p h l. none p (omega arith)))
+    (let z : 0 + r ≡ r = omega arith in z)
     ∙ ap (λ (b : Bool). keptIf b r (listed d (suc r) f)) here
 
 -- ---- a list and its members
@@ -98,7 +102,8 @@ listed-members (suc k) s (p ∷ rest) up low = go (decLt s p) (listed-members k 
     wider : allBelow (suc s + k) (p ∷ rest) ≡ true
     wider = subst (λ (m : ℕ). allBelow m (p ∷ rest) ≡ true) (let z : s + suc k ≡ suc s + k = omega arith in z) low
 
-    go : Dec (s < p) → (upFrom (suc s) (p ∷ rest) ≡ true → allBelow (suc s + k) (p ∷ rest) ≡ true → listed k (suc s) (member (p ∷ rest)) ≡ p ∷ rest)
+    go : Dec (s < p) → (upFrom (suc s) (p ∷ rest) ≡ true → allBelow (suc s + k) (p ∷ rest) ≡ true → listed k (suc s) (member (p ∷ rest)) ≡ p
+        ∷ rest)
         → (upFrom (suc s) rest ≡ true → allBelow (suc s + k) rest ≡ true → listed k (suc s) (member rest) ≡ rest)
         → keptIf (member (p ∷ rest) s) s (listed k (suc s) (member (p ∷ rest))) ≡ p ∷ rest
     go (yes h) later same =
@@ -106,9 +111,11 @@ listed-members (suc k) s (p ∷ rest) up low = go (decLt s p) (listed-members k 
         ap₂ (λ (b : Bool) (l : List ℕ). keptIf b s l) (below-not-member (suc s) (p ∷ rest) up′ s (omega arith)) (later up′ wider)
     go (no h) later same =
         let e : p ≡ s = omega (arith, a) in
-        let up′ : upFrom (suc s) rest ≡ true = subst (λ (q : ℕ). upFrom (suc q) rest ≡ true) e (and-right (leb s p) (upFrom (suc p) rest) up) in
+        let up′ : upFrom (suc s) rest ≡ true =
+        subst (λ (q : ℕ). upFrom (suc q) rest ≡ true) e (and-right (leb s p) (upFrom (suc p) rest) up) in
         let tail : listed k (suc s) (member (p ∷ rest)) ≡ rest =
-        listed-same k (suc s) (member (p ∷ rest)) (member rest) (λ q i j. skip q (omega arith)) ∙ same up′ (and-right (ltb p (suc s + k)) (allBelow (suc s + k) rest) wider) in
+        listed-same k (suc s) (member (p ∷ rest)) (member rest) (λ q i j. skip q (omega arith))
+        ∙ same up′ (and-right (ltb p (suc s + k)) (allBelow (suc s + k) rest) wider) in
         ap₂ (λ (b : Bool) (l : List ℕ). keptIf b s l) (first e) tail ∙ ap (λ (q : ℕ). q ∷ rest) (sym e)
       where
         skip : (q : ℕ) → p < q → member (p ∷ rest) q ≡ member rest q
@@ -141,7 +148,8 @@ member-listed (suc k) s f x h l = go (f s) refl (decLt s x) (member-listed k (su
     here true e q = ap (λ (c : Bool). c || member (listed k (suc s) f) x) (eq-eqb s x q) ∙ sym e ∙ ap f q
     here false e q = below-not-member (suc s) (listed k (suc s) f) (listed-up k (suc s) f) x (omega arith) ∙ sym e ∙ ap f q
 
-    go : (b : Bool) → f s ≡ b → Dec (s < x) → (suc s ≤ x → x < suc s + k → member (listed k (suc s) f) x ≡ f x) → member (keptIf (f s) s (listed k (suc s) f)) x ≡ f x
+    go : (b : Bool) → f s ≡ b → Dec (s < x) → (suc s ≤ x → x < suc s + k → member (listed k (suc s) f) x ≡ f x)
+        → member (keptIf (f s) s (listed k (suc s) f)) x ≡ f x
     go b e (yes i) rest = later (f s) i ∙ rest i (omega arith)
     go b e (no i) rest = ap (λ (c : Bool). member (keptIf c s (listed k (suc s) f)) x) e ∙ here b e (omega arith)
 

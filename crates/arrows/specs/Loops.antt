@@ -37,7 +37,8 @@ pub filled-all : (n next : ℕ) (table : List ℕ) (l : List Arrow) → fitFrom 
 unfolding filled putAll fitFrom
 filled-all n next table [] e = refl
 filled-all n next table (x ∷ rest) e =
-    ap (λ (b : Bool). cond b (filled n (place x + 1) (put table x) rest) table) (and-left (passes n next x) (fitFrom n (place x + 1) rest) e)
+    ap (λ (b : Bool). cond b (filled n (place x + 1) (put table x) rest) table)
+    (and-left (passes n next x) (fitFrom n (place x + 1) rest) e)
     ∙ filled-all n (place x + 1) (put table x) rest (and-right (passes n next x) (fitFrom n (place x + 1) rest) e)
 
 -- the arrow that the three bytes at i spell
@@ -50,8 +51,10 @@ unfolding arrowsIn
 arrow-at s i h =
     ap arrowsIn
     (drop-cons s i 0 (omega arith)
-    ∙ ap (λ (l : List ℕ). getD s i 0 ∷ l) (ap (λ (k : ℕ). drop k s) (let z : suc i ≡ i + 1 = omega arith in z) ∙ drop-cons s (i + 1) 0 (omega arith)
-    ∙ ap (λ (l : List ℕ). getD s (i + 1) 0 ∷ l) (ap (λ (k : ℕ). drop k s) (let z : suc (i + 1) ≡ i + 2 = omega arith in z) ∙ drop-cons s (i + 2) 0 (omega arith)
+    ∙ ap (λ (l : List ℕ). getD s i 0 ∷ l)
+    (ap (λ (k : ℕ). drop k s) (let z : suc i ≡ i + 1 = omega arith in z) ∙ drop-cons s (i + 1) 0 (omega arith)
+    ∙ ap (λ (l : List ℕ). getD s (i + 1) 0 ∷ l)
+    (ap (λ (k : ℕ). drop k s) (let z : suc (i + 1) ≡ i + 2 = omega arith in z) ∙ drop-cons s (i + 2) 0 (omega arith)
     ∙ ap (λ (k : ℕ). getD s (i + 2) 0 ∷ drop k s) (let z : suc (i + 2) ≡ i + 3 = omega arith in z))))
 
 pub arrows-end : (s : List ℕ) (i : ℕ) → length s ≤ i → arrowsIn (drop i s) ≡ []
@@ -77,7 +80,8 @@ module _ (n : ℕ) (s : List ℕ) where
   unfolding fitFrom filled
   goes-more next i table h e = record {
     fit = ap (fitFrom n next) (arrow-at s i h) ∙ ap (λ (b : Bool). b && fitFrom n (place (arrowIn s i) + 1) (arrowsIn (drop (i + 3) s))) e;
-    full = ap (filled n next table) (arrow-at s i h) ∙ ap (λ (b : Bool). cond b (filled n (place (arrowIn s i) + 1) (put table (arrowIn s i)) (arrowsIn (drop (i + 3) s))) table) e;
+    full = ap (filled n next table) (arrow-at s i h)
+        ∙ ap (λ (b : Bool). cond b (filled n (place (arrowIn s i) + 1) (put table (arrowIn s i)) (arrowsIn (drop (i + 3) s))) table) e;
   }
 
 -- what is left of a body decides what is left to do
@@ -85,17 +89,22 @@ abbrev pub Reading : ℕ → List ℕ → List ℕ → ℕ → ℕ → List ℕ 
 Reading n s table₀ next i table = Goes n s 0 0 table₀ next i table
 
 module _ (n : ℕ) (s table₀ : List ℕ) (next i : ℕ) (table : List ℕ) (r : Reading n s table₀ next i table) where
-  pub reading-refused : n ≤ 64 → i + 2 < length s → passes n next (arrowIn s i) ≡ false → (false ≡ arrowsFit n (arrowsIn s)) × (table ≡ filled n 0 table₀ (arrowsIn s))
+  pub reading-refused : n ≤ 64 → i + 2 < length s → passes n next (arrowIn s i) ≡ false → (false ≡ arrowsFit n (arrowsIn s))
+      × (table ≡ filled n 0 table₀ (arrowsIn s))
   unfolding fitFrom filled
   reading-refused k h e = (
-    sym (sym (fit-places n (arrowsIn s) k) ∙ r .fit ∙ ap (fitFrom n next) (arrow-at s i h) ∙ ap (λ (b : Bool). b && fitFrom n (place (arrowIn s i) + 1) (arrowsIn (drop (i + 3) s))) e),
-    sym (r .full ∙ ap (filled n next table) (arrow-at s i h) ∙ ap (λ (b : Bool). cond b (filled n (place (arrowIn s i) + 1) (put table (arrowIn s i)) (arrowsIn (drop (i + 3) s))) table) e),
+    sym (sym (fit-places n (arrowsIn s) k) ∙ r .fit ∙ ap (fitFrom n next) (arrow-at s i h)
+        ∙ ap (λ (b : Bool). b && fitFrom n (place (arrowIn s i) + 1) (arrowsIn (drop (i + 3) s))) e),
+    sym (r .full ∙ ap (filled n next table) (arrow-at s i h)
+        ∙ ap (λ (b : Bool). cond b (filled n (place (arrowIn s i) + 1) (put table (arrowIn s i)) (arrowsIn (drop (i + 3) s))) table) e),
   )
 
   pub reading-done : n ≤ 64 → length s ≤ i → (true ≡ arrowsFit n (arrowsIn s)) × (table ≡ filled n 0 table₀ (arrowsIn s))
   unfolding fitFrom filled
-  reading-done k h =
-      (sym (sym (fit-places n (arrowsIn s) k) ∙ r .fit ∙ ap (fitFrom n next) (arrows-end s i h)), sym (r .full ∙ ap (filled n next table) (arrows-end s i h)))
+  reading-done k h = (
+    sym (sym (fit-places n (arrowsIn s) k) ∙ r .fit ∙ ap (fitFrom n next) (arrows-end s i h)),
+    sym (r .full ∙ ap (filled n next table) (arrows-end s i h)),
+  )
 
 -- ---- writing
 
@@ -148,7 +157,8 @@ unfolding kindArrows spelt
 kind-none k at rows room = record { next = omega arith; stored = refl }
 
 -- one row more
-pub kind-more : (k a at : ℕ) (rows : ℕ → ℕ) (old mid new : List ℕ) (r q : ℕ) → Spliced (spelt (kindArrows k a rows)) at old mid r → Spliced (spelt (rowArrows k a (rows a))) r mid new q
+pub kind-more : (k a at : ℕ) (rows : ℕ → ℕ) (old mid new : List ℕ) (r q : ℕ) → Spliced (spelt (kindArrows k a rows)) at old mid r
+    → Spliced (spelt (rowArrows k a (rows a))) r mid new q
     → Spliced (spelt (kindArrows k (a + 1) rows)) at old new q
 unfolding kindArrows
 kind-more k a at rows old mid new r q s t =
@@ -258,9 +268,11 @@ pub spill-done : (t : List ℕ) (b x : ℕ) → x ≡ 0 → putAll t (rowArrows 
 unfolding putAll
 spill-done t b x e = ap (putAll t) (row-none 0 b x e)
 
-pub turn-more : (t : List ℕ) (b : ℕ) (rows : ℕ → ℕ) → putAll (putAll t (kindArrows 0 b rows)) (rowArrows 0 b (rows b)) ≡ putAll t (kindArrows 0 (b + 1) rows)
+pub turn-more : (t : List ℕ) (b : ℕ) (rows : ℕ → ℕ)
+    → putAll (putAll t (kindArrows 0 b rows)) (rowArrows 0 b (rows b)) ≡ putAll t (kindArrows 0 (b + 1) rows)
 unfolding kindArrows
-turn-more t b rows = putAll-append t (kindArrows 0 b rows) (rowArrows 0 b (rows b)) ∙ ap (λ (n : ℕ). putAll t (kindArrows 0 n rows)) (sym (add-one b))
+turn-more t b rows = putAll-append t (kindArrows 0 b rows) (rowArrows 0 b (rows b))
+    ∙ ap (λ (n : ℕ). putAll t (kindArrows 0 n rows)) (sym (add-one b))
 
 pub length-three : (l : List ℕ) (i a j b k c : ℕ) → length (set (set (set l i a) j b) k c) ≡ length l
 length-three l i a j b k c = length-set (set (set l i a) j b) k c ∙ length-set (set l i a) j b ∙ length-set l i a

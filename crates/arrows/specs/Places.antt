@@ -19,8 +19,12 @@ pub record Ranged (x : Arrow) : Type 0 where
 
 pub known-ranged : (n : ℕ) (x : Arrow) → n ≤ 64 → known n x ≡ true → Ranged x
 known-ranged n x h e =
-    let k : x .kind ≤ 3 = leb-true (x .kind) 3 (and-left (leb (x .kind) 3) (ltb (x .from) n) (and-left (leb (x .kind) 3 && ltb (x .from) n) (ltb (x .to) n) e)) in
-    let a : x .from < n = ltb-true (x .from) n (and-right (leb (x .kind) 3) (ltb (x .from) n) (and-left (leb (x .kind) 3 && ltb (x .from) n) (ltb (x .to) n) e)) in
+    let k : x .kind ≤ 3 =
+    leb-true (x .kind) 3 (and-left (leb (x .kind) 3) (ltb (x .from) n)
+    (and-left (leb (x .kind) 3 && ltb (x .from) n) (ltb (x .to) n) e)) in
+    let a : x .from < n =
+    ltb-true (x .from) n (and-right (leb (x .kind) 3) (ltb (x .from) n)
+    (and-left (leb (x .kind) 3 && ltb (x .from) n) (ltb (x .to) n) e)) in
     let b : x .to < n = ltb-true (x .to) n (and-right (leb (x .kind) 3 && ltb (x .from) n) (ltb (x .to) n) e) in
     record { kind-in = omega arith; from-in = omega arith; to-in = omega arith }
 
@@ -55,9 +59,11 @@ before-place x y r q = kinds (decLt (x .kind) (y .kind)) (decLt (y .kind) (x .ki
     tos k a (no h) = le-ltb (x .to) (y .to) (omega arith) ∙ sym (le-ltb (place x) (place y) (omega arith))
 
     froms : x .kind ≡ y .kind → Dec (x .from < y .from) → Dec (y .from < x .from) → inner ≡ ltb (place x) (place y)
-    froms k (yes h) e = ap (λ (b : Bool). b || (eqb (x .from) (y .from) && ltb (x .to) (y .to))) (lt-ltb (x .from) (y .from) h) ∙ sym (lt-ltb (place x) (place y) (omega arith))
+    froms k (yes h) e = ap (λ (b : Bool). b || (eqb (x .from) (y .from) && ltb (x .to) (y .to))) (lt-ltb (x .from) (y .from) h)
+        ∙ sym (lt-ltb (place x) (place y) (omega arith))
     froms k (no h) (yes i) =
-        ap₂ (λ (b c : Bool). b || (c && ltb (x .to) (y .to))) (le-ltb (x .from) (y .from) (omega arith)) (ne-eqb (x .from) (y .from) (λ e. let z : ⊥ = omega arith in z))
+        ap₂ (λ (b c : Bool). b || (c && ltb (x .to) (y .to))) (le-ltb (x .from) (y .from) (omega arith))
+        (ne-eqb (x .from) (y .from) (λ e. let z : ⊥ = omega arith in z))
         ∙ sym (le-ltb (place x) (place y) (omega arith))
     froms k (no h) (no i) =
         let e : x .from ≡ y .from = omega arith in
@@ -65,9 +71,11 @@ before-place x y r q = kinds (decLt (x .kind) (y .kind)) (decLt (y .kind) (x .ki
         ∙ tos k e (decLt (x .to) (y .to))
 
     kinds : Dec (x .kind < y .kind) → Dec (y .kind < x .kind) → before x y ≡ ltb (place x) (place y)
-    kinds (yes h) e = ap (λ (b : Bool). b || (eqb (x .kind) (y .kind) && inner)) (lt-ltb (x .kind) (y .kind) h) ∙ sym (lt-ltb (place x) (place y) (omega arith))
+    kinds (yes h) e = ap (λ (b : Bool). b || (eqb (x .kind) (y .kind) && inner)) (lt-ltb (x .kind) (y .kind) h)
+        ∙ sym (lt-ltb (place x) (place y) (omega arith))
     kinds (no h) (yes i) =
-        ap₂ (λ (b c : Bool). b || (c && inner)) (le-ltb (x .kind) (y .kind) (omega arith)) (ne-eqb (x .kind) (y .kind) (λ e. let z : ⊥ = omega arith in z))
+        ap₂ (λ (b c : Bool). b || (c && inner)) (le-ltb (x .kind) (y .kind) (omega arith))
+        (ne-eqb (x .kind) (y .kind) (λ e. let z : ⊥ = omega arith in z))
         ∙ sym (le-ltb (place x) (place y) (omega arith))
     kinds (no h) (no i) =
         let e : x .kind ≡ y .kind = omega arith in
@@ -85,17 +93,22 @@ shuffle true false true d = refl
 shuffle true false false d = refl
 shuffle false b c d = refl
 
-fit-after : (n : ℕ) (x : Arrow) (l : List Arrow) → n ≤ 64 → known n x ≡ true → fitFrom n (place x + 1) l ≡ (allKnown n l && ascending (x ∷ l))
+fit-after : (n : ℕ) (x : Arrow) (l : List Arrow) → n ≤ 64 → known n x ≡ true
+    → fitFrom n (place x + 1) l ≡ (allKnown n l && ascending (x ∷ l))
 unfolding fitFrom allKnown ascending
 fit-after n x [] h e = refl
 fit-after n x (y ∷ rest) h e = go (known n y) refl (fit-after n y rest h)
   where
     go : (b : Bool) → known n y ≡ b → (known n y ≡ true → fitFrom n (place y + 1) rest ≡ (allKnown n rest && ascending (y ∷ rest)))
-        → (known n y && leb (place x + 1) (place y) && fitFrom n (place y + 1) rest) ≡ (known n y && allKnown n rest && (before x y && ascending (y ∷ rest)))
+        → (known n y && leb (place x + 1) (place y) && fitFrom n (place y + 1) rest) ≡ (known n y && allKnown n rest
+        && (before x y && ascending (y ∷ rest)))
     go true k later =
-        ap₂ (λ (a b : Bool). known n y && a && b) (ap (λ (m : ℕ). leb m (place y)) (let z : place x + 1 ≡ suc (place x) = omega arith in z) ∙ sym (before-place x y (known-ranged n x h e) (known-ranged n y h k))) (later k)
+        ap₂ (λ (a b : Bool). known n y && a && b)
+        (ap (λ (m : ℕ). leb m (place y)) (let z : place x + 1 ≡ suc (place x) = omega arith in z)
+        ∙ sym (before-place x y (known-ranged n x h e) (known-ranged n y h k))) (later k)
         ∙ shuffle (known n y) (before x y) (allKnown n rest) (ascending (y ∷ rest))
-    go false k later = ap (λ (b : Bool). b && leb (place x + 1) (place y) && fitFrom n (place y + 1) rest) k ∙ sym (ap (λ (b : Bool). b && allKnown n rest && (before x y && ascending (y ∷ rest))) k)
+    go false k later = ap (λ (b : Bool). b && leb (place x + 1) (place y) && fitFrom n (place y + 1) rest) k
+        ∙ sym (ap (λ (b : Bool). b && allKnown n rest && (before x y && ascending (y ∷ rest))) k)
 
 -- the arrows fit exactly if they pass that test from 0 on
 pub fit-places : (n : ℕ) (l : List Arrow) → n ≤ 64 → fitFrom n 0 l ≡ arrowsFit n l
@@ -111,12 +124,14 @@ fit-places n (x ∷ rest) h = go (known n x) refl
     assoc true b c = refl
     assoc false b c = refl
 
-    go : (b : Bool) → known n x ≡ b → (known n x && leb 0 (place x) && fitFrom n (place x + 1) rest) ≡ (known n x && allKnown n rest && ascending (x ∷ rest))
+    go : (b : Bool) → known n x ≡ b
+        → (known n x && leb 0 (place x) && fitFrom n (place x + 1) rest) ≡ (known n x && allKnown n rest && ascending (x ∷ rest))
     go true k =
         drop-true (known n x) (leb 0 (place x)) (fitFrom n (place x + 1) rest) (le-leb 0 (place x) (omega arith))
         ∙ ap (λ (b : Bool). known n x && b) (fit-after n x rest h k)
         ∙ assoc (known n x) (allKnown n rest) (ascending (x ∷ rest))
-    go false k = ap (λ (b : Bool). b && leb 0 (place x) && fitFrom n (place x + 1) rest) k ∙ sym (ap (λ (b : Bool). b && allKnown n rest && ascending (x ∷ rest)) k)
+    go false k = ap (λ (b : Bool). b && leb 0 (place x) && fitFrom n (place x + 1) rest) k
+        ∙ sym (ap (λ (b : Bool). b && allKnown n rest && ascending (x ∷ rest)) k)
 
 -- ---- bytes and back
 

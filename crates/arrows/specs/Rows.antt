@@ -43,7 +43,8 @@ members-more x small some =
     let gone : has y r ≡ false =
     has-minus x (single r) r ∙ ap (λ (b : Bool). has x r && not b) (has-single r r ∙ eq-eqb r r refl) ∙ and-false (has x r) in
     let low-none : listed r 0 (has y) ≡ [] =
-    listed-none r 0 (has y) (λ p h i. has-minus x (single r) p ∙ ap (λ (b : Bool). b && not (has (single r) p)) (l .none p (omega arith))) in
+    listed-none r 0 (has y)
+    (λ p h i. has-minus x (single r) p ∙ ap (λ (b : Bool). b && not (has (single r) p)) (l .none p (omega arith))) in
     let high-same : listed d (suc r) (has y) ≡ listed d (suc r) (has x) =
     listed-same d (suc r) (has y) (has x)
     (λ p h i. has-minus x (single r) p

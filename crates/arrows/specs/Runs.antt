@@ -60,7 +60,8 @@ on s at i head n least bytes e g =
     let t = ltb (getD s (i + 2) 0) n in
     let all : (q && r && t) ≡ true = and-right p (q && r && t) g in
     let two : (q && r) ≡ true = and-left (q && r) t all in
-    let same : getD s i 0 + 256 * getD s (i + 1) 0 ≡ getD s at 0 + 256 * getD s (at + 1) 0 = sym (number-two i s) ∙ eqb-true (number 2 (drop i s)) head (and-left q r two) ∙ e ∙ number-two at s in
+    let same : getD s i 0 + 256 * getD s (i + 1) 0 ≡ getD s at 0 + 256 * getD s (at + 1) 0 = sym (number-two i s)
+    ∙ eqb-true (number 2 (drop i s)) head (and-left q r two) ∙ e ∙ number-two at s in
     let a : getD s i 0 < 256 = bytes i in
     let b : getD s at 0 < 256 = bytes at in
     record {
@@ -74,11 +75,14 @@ on s at i head n least bytes e g =
 abbrev pub base : List ℕ → ℕ → ℕ
 base s at = getD s at 0 * 4096 + getD s (at + 1) 0 * 64
 
-pass : (n : ℕ) (s : List ℕ) (at i least : ℕ) → known n (arrowIn s at) ≡ true → On s at i n least → passes n (base s at + least) (arrowIn s i) ≡ true
+pass : (n : ℕ) (s : List ℕ) (at i least : ℕ) → known n (arrowIn s at) ≡ true → On s at i n least
+    → passes n (base s at + least) (arrowIn s i) ≡ true
 pass n s at i least k o =
     let h : Head s at i = o .head in
     and-intro
-    (and-intro (ap₂ (λ (p q : ℕ). leb p 3 && ltb q n) (h .kinds) (h .froms) ∙ and-left (leb (getD s at 0) 3 && ltb (getD s (at + 1) 0) n) (ltb (getD s (at + 2) 0) n) k) (lt-ltb (getD s (i + 2) 0) n (o .small)))
+    (and-intro (ap₂ (λ (p q : ℕ). leb p 3 && ltb q n) (h .kinds) (h .froms)
+    ∙ and-left (leb (getD s at 0) 3 && ltb (getD s (at + 1) 0) n) (ltb (getD s (at + 2) 0) n) k)
+    (lt-ltb (getD s (i + 2) 0) n (o .small)))
     (le-leb (base s at + least) (place (arrowIn s i)) (omega arith))
 
 -- the next arrow of the run is put
@@ -99,20 +103,25 @@ pub wait-start : (n : ℕ) (s : List ℕ) (at : ℕ) (table : List ℕ) → getD
     → Goes n s (place (arrowIn s at) + 1) (at + 3) (put table (arrowIn s at)) (base s at + (getD s (at + 2) 0 + 1)) (at + 3)
     (set table (getD s (at + 2) 0) (union (row table (getD s (at + 2) 0)) (single (getD s (at + 1) 0))))
 wait-start n s at table e =
-    subst (λ (p : ℕ). Goes n s (place (arrowIn s at) + 1) (at + 3) (put table (arrowIn s at)) p (at + 3) (set table (getD s (at + 2) 0) (union (row table (getD s (at + 2) 0)) (single (getD s (at + 1) 0)))))
+    subst (λ (p : ℕ). Goes n s (place (arrowIn s at) + 1) (at + 3) (put table (arrowIn s at)) p (at + 3)
+    (set table (getD s (at + 2) 0) (union (row table (getD s (at + 2) 0)) (single (getD s (at + 1) 0)))))
     (let z : place (arrowIn s at) + 1 ≡ base s at + (getD s (at + 2) 0 + 1) = omega arith in z)
-    (subst (λ (t : List ℕ). Goes n s (place (arrowIn s at) + 1) (at + 3) (put table (arrowIn s at)) (place (arrowIn s at) + 1) (at + 3) t) (wait-put table (arrowIn s at) e)
+    (subst (λ (t : List ℕ). Goes n s (place (arrowIn s at) + 1) (at + 3) (put table (arrowIn s at)) (place (arrowIn s at) + 1) (at + 3) t)
+    (wait-put table (arrowIn s at) e)
     (goes-start n s (place (arrowIn s at) + 1) (at + 3) (put table (arrowIn s at))))
 
 -- one condition more
-pub wait-more : (n : ℕ) (s : List ℕ) (at i least f h one : ℕ) (old table : List ℕ) → known n (arrowIn s at) ≡ true → getD s at 0 ≡ 0 → one ≡ single (getD s (at + 1) 0) → On s at i n least → i + 2 < length s
+pub wait-more : (n : ℕ) (s : List ℕ) (at i least f h one : ℕ) (old table : List ℕ) → known n (arrowIn s at) ≡ true → getD s at 0 ≡ 0
+    → one ≡ single (getD s (at + 1) 0) → On s at i n least → i + 2 < length s
     → Goes n s f h old (base s at + least) i table
-    → Goes n s f h old (base s at + (getD s (i + 2) 0 + 1)) (i + 3) (set table (getD s (i + 2) 0) (union (row table (getD s (i + 2) 0)) one))
+    → Goes n s f h old (base s at + (getD s (i + 2) 0 + 1)) (i + 3)
+    (set table (getD s (i + 2) 0) (union (row table (getD s (i + 2) 0)) one))
 wait-more n s at i least f h one old table k e w o l g =
     subst (λ (t : List ℕ). Goes n s f h old (base s at + (getD s (i + 2) 0 + 1)) (i + 3) t)
     (wait-put table (arrowIn s i) (o .head .kinds ∙ e)
     ∙ ap (λ (c : ℕ). set table (getD s (i + 2) 0) (union (row table (getD s (i + 2) 0)) c)) (ap single (o .head .froms) ∙ sym w))
-    (goes-then n s f h old (base s at + least) i table (base s at + (getD s (i + 2) 0 + 1)) (i + 3) (put table (arrowIn s i)) g (on-more n s at i least table k o l))
+    (goes-then n s f h old (base s at + least) i table (base s at + (getD s (i + 2) 0 + 1)) (i + 3) (put table (arrowIn s i)) g
+    (on-more n s at i least table k o l))
 
 -- ---- the other kinds
 
@@ -140,17 +149,22 @@ point-twice table i a b = go (decLt i (length table))
         ∙ sym (set-out table i (union (row table i) (union a b)) (omega arith))
 
 pub point-start : (n : ℕ) (s : List ℕ) (at : ℕ) (table : List ℕ) → 0 < getD s at 0
-    → Goes n s (place (arrowIn s at) + 1) (at + 3) (put table (arrowIn s at)) (base s at + (getD s (at + 2) 0 + 1)) (at + 3) (pointed table (numberOf (arrowIn s at)) (single (getD s (at + 2) 0)))
+    → Goes n s (place (arrowIn s at) + 1) (at + 3) (put table (arrowIn s at)) (base s at + (getD s (at + 2) 0 + 1)) (at + 3)
+    (pointed table (numberOf (arrowIn s at)) (single (getD s (at + 2) 0)))
 point-start n s at table e =
-    subst (λ (p : ℕ). Goes n s (place (arrowIn s at) + 1) (at + 3) (put table (arrowIn s at)) p (at + 3) (pointed table (numberOf (arrowIn s at)) (single (getD s (at + 2) 0))))
+    subst (λ (p : ℕ). Goes n s (place (arrowIn s at) + 1) (at + 3) (put table (arrowIn s at)) p (at + 3)
+    (pointed table (numberOf (arrowIn s at)) (single (getD s (at + 2) 0))))
     (let z : place (arrowIn s at) + 1 ≡ base s at + (getD s (at + 2) 0 + 1) = omega arith in z)
-    (subst (λ (t : List ℕ). Goes n s (place (arrowIn s at) + 1) (at + 3) (put table (arrowIn s at)) (place (arrowIn s at) + 1) (at + 3) t) (point-put table (arrowIn s at) e)
+    (subst (λ (t : List ℕ). Goes n s (place (arrowIn s at) + 1) (at + 3) (put table (arrowIn s at)) (place (arrowIn s at) + 1) (at + 3) t)
+    (point-put table (arrowIn s at) e)
     (goes-start n s (place (arrowIn s at) + 1) (at + 3) (put table (arrowIn s at))))
 
 -- one arrow more
-pub point-more : (n : ℕ) (s : List ℕ) (at i least steps f h : ℕ) (old table : List ℕ) → known n (arrowIn s at) ≡ true → 0 < getD s at 0 → On s at i n least → i + 2 < length s
+pub point-more : (n : ℕ) (s : List ℕ) (at i least steps f h : ℕ) (old table : List ℕ) → known n (arrowIn s at) ≡ true → 0 < getD s at 0
+    → On s at i n least → i + 2 < length s
     → Goes n s f h old (base s at + least) i (pointed table (numberOf (arrowIn s at)) steps)
-    → Goes n s f h old (base s at + (getD s (i + 2) 0 + 1)) (i + 3) (pointed table (numberOf (arrowIn s at)) (union steps (single (getD s (i + 2) 0))))
+    → Goes n s f h old (base s at + (getD s (i + 2) 0 + 1)) (i + 3)
+    (pointed table (numberOf (arrowIn s at)) (union steps (single (getD s (i + 2) 0))))
 point-more n s at i least steps f h old table k e o l g =
     let w : Head s at i = o .head in
     let some : 0 < getD s i 0 = omega arith in
@@ -159,4 +173,5 @@ point-more n s at i least steps f h old table k e o l g =
     (point-put t (arrowIn s i) some
     ∙ ap (λ (j : ℕ). pointed t j (single (getD s (i + 2) 0))) (let z : numberOf (arrowIn s i) ≡ numberOf (arrowIn s at) = omega arith in z)
     ∙ point-twice table (numberOf (arrowIn s at)) steps (single (getD s (i + 2) 0)))
-    (goes-then n s f h old (base s at + least) i t (base s at + (getD s (i + 2) 0 + 1)) (i + 3) (put t (arrowIn s i)) g (on-more n s at i least t k o l))
+    (goes-then n s f h old (base s at + least) i t (base s at + (getD s (i + 2) 0 + 1)) (i + 3) (put t (arrowIn s i)) g
+    (on-more n s at i least t k o l))

@@ -78,7 +78,8 @@ or-swap true false = refl
 or-swap false true = refl
 or-swap false false = refl
 
-pub held-put : (t : List ℕ) (x y : Arrow) → rowAt x < length t → Ranged x → Ranged y → held (row (put t x)) y ≡ (eqb (place x) (place y) || held (row t) y)
+pub held-put : (t : List ℕ) (x y : Arrow) → rowAt x < length t → Ranged x → Ranged y
+    → held (row (put t x)) y ≡ (eqb (place x) (place y) || held (row t) y)
 unfolding held put
 held-put t x y inside r q = go (ℕ-discrete (rowAt y) (rowAt x))
   where
@@ -91,16 +92,19 @@ held-put t x y inside r q = go (ℕ-discrete (rowAt y) (rowAt x))
         ne-eqb (columnAt x) (columnAt y) f
         ∙ sym (ne-eqb (place x) (place y) (λ p. f (ap columnAt (same-arrow x y r q p))))
 
-    go : Dec (rowAt y ≡ rowAt x) → has (row (set t (rowAt x) v) (rowAt y)) (columnAt y) ≡ (eqb (place x) (place y) || has (row t (rowAt y)) (columnAt y))
+    go : Dec (rowAt y ≡ rowAt x)
+        → has (row (set t (rowAt x) v) (rowAt y)) (columnAt y) ≡ (eqb (place x) (place y) || has (row t (rowAt y)) (columnAt y))
     go (yes e) =
         ap (λ (i : ℕ). has (row (set t (rowAt x) v) i) (columnAt y)) e
         ∙ ap (λ (w : ℕ). has w (columnAt y)) (getD-set-same t (rowAt x) v 0 inside)
         ∙ has-union (row t (rowAt x)) (single (columnAt x)) (columnAt y)
-        ∙ ap₂ (λ (a b : Bool). a || b) (ap (λ (i : ℕ). has (row t i) (columnAt y)) (sym e)) (has-single (columnAt x) (columnAt y) ∙ column e (ℕ-discrete (columnAt x) (columnAt y)))
+        ∙ ap₂ (λ (a b : Bool). a || b) (ap (λ (i : ℕ). has (row t i) (columnAt y)) (sym e))
+        (has-single (columnAt x) (columnAt y) ∙ column e (ℕ-discrete (columnAt x) (columnAt y)))
         ∙ or-swap (has (row t (rowAt y)) (columnAt y)) (eqb (place x) (place y))
     go (no e) =
         ap (λ (w : ℕ). has w (columnAt y)) (getD-set-other t (rowAt x) (rowAt y) v 0 e)
-        ∙ ap (λ (b : Bool). b || has (row t (rowAt y)) (columnAt y)) (sym (ne-eqb (place x) (place y) (λ p. e (sym (ap rowAt (same-arrow x y r q p))))))
+        ∙ ap (λ (b : Bool). b || has (row t (rowAt y)) (columnAt y))
+        (sym (ne-eqb (place x) (place y) (λ p. e (sym (ap rowAt (same-arrow x y r q p))))))
 
 pub length-put : (t : List ℕ) (x : Arrow) → length (put t x) ≡ length t
 unfolding put
@@ -183,7 +187,8 @@ module _ (m : ℕ) (l : List Arrow) (k : AllIn m l) where
   unfolding held
   held-filled y q =
       held-putAll (replicate m 0) l y inside q
-      ∙ ap (λ (b : Bool). member (map place l) (place y) || b) (ap (λ (w : ℕ). has w (columnAt y)) (row-empty m (rowAt y)) ∙ has-zero (columnAt y))
+      ∙ ap (λ (b : Bool). member (map place l) (place y) || b)
+      (ap (λ (w : ℕ). has w (columnAt y)) (row-empty m (rowAt y)) ∙ has-zero (columnAt y))
       ∙ or-false (member (map place l) (place y))
 
 pub length-filled : (m : ℕ) (l : List Arrow) → length (putAll (replicate m 0) l) ≡ m
@@ -200,10 +205,12 @@ on-ranged i s h l = go (decLt i 64)
   where
     go : Dec (i < 64) → Ranged (arrowOn i s)
     go (yes e) =
-        subst (λ (b : Bool). Ranged (cond b (record { kind = 0; from = s; to = i }) (record { kind = i / 64; from = i % 64; to = s }))) (sym (lt-ltb i 64 e))
+        subst (λ (b : Bool). Ranged (cond b (record { kind = 0; from = s; to = i }) (record { kind = i / 64; from = i % 64; to = s })))
+        (sym (lt-ltb i 64 e))
         (record { kind-in = lit< tt; from-in = l; to-in = e })
     go (no e) =
-        subst (λ (b : Bool). Ranged (cond b (record { kind = 0; from = s; to = i }) (record { kind = i / 64; from = i % 64; to = s }))) (sym (le-ltb i 64 (omega arith)))
+        subst (λ (b : Bool). Ranged (cond b (record { kind = 0; from = s; to = i }) (record { kind = i / 64; from = i % 64; to = s })))
+        (sym (le-ltb i 64 (omega arith)))
         (record { kind-in = omega arith; from-in = omega arith; to-in = l })
 
 pub on-held : (rows : ℕ → ℕ) (i s : ℕ) → held rows (arrowOn i s) ≡ has (rows i) s
@@ -211,7 +218,8 @@ unfolding held
 on-held rows i s = go (decLt i 64)
   where
     go : Dec (i < 64) → held rows (arrowOn i s) ≡ has (rows i) s
-    go (yes e) = ap (λ (b : Bool). held rows (cond b (record { kind = 0; from = s; to = i }) (record { kind = i / 64; from = i % 64; to = s }))) (lt-ltb i 64 e)
+    go (yes e) = ap (λ (b : Bool).
+        held rows (cond b (record { kind = 0; from = s; to = i }) (record { kind = i / 64; from = i % 64; to = s }))) (lt-ltb i 64 e)
     go (no e) =
         let x : Arrow = record { kind = i / 64; from = i % 64; to = s } in
         let some : i / 64 ≡ 0 → ⊥ = λ z. let w : ⊥ = omega arith in w in

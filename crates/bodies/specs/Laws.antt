@@ -37,7 +37,8 @@ length-roles zero table = refl
 length-roles (suc i) table =
     let r : length (rolesBody i table) ≡ 2 * i = length-roles i table in
     let b : length (bytes 2 (row table i)) ≡ 2 = length-bytes 2 (row table i) in
-    length-append (rolesBody i table) (bytes 2 (row table i)) ∙ let z : length (rolesBody i table) + length (bytes 2 (row table i)) ≡ 2 * suc i = omega arith in z
+    length-append (rolesBody i table) (bytes 2 (row table i))
+    ∙ let z : length (rolesBody i table) + length (bytes 2 (row table i)) ≡ 2 * suc i = omega arith in z
 
 -- no role set yet
 pub roles-none : (table room : List ℕ) (at : ℕ) → Spliced (rolesBody 0 table) at room room at
@@ -45,8 +46,10 @@ unfolding rolesBody
 roles-none table room at = record { next = omega arith; stored = refl }
 
 -- one role set more
-pub roles-more : (i at : ℕ) (table old mid new : List ℕ) (r q : ℕ) → Spliced (rolesBody i table) at old mid r → Spliced (bytes 2 (row table i)) r mid new q
+pub roles-more : (i at : ℕ) (table old mid new : List ℕ) (r q : ℕ) → Spliced (rolesBody i table) at old mid r
+    → Spliced (bytes 2 (row table i)) r mid new q
     → Spliced (rolesBody (i + 1) table) at old new q
 unfolding rolesBody
 roles-more i at table old mid new r q s t =
-    subst (λ (k : ℕ). Spliced (rolesBody k table) at old new q) (sym (add-one i)) (spliced-then (rolesBody i table) (bytes 2 (row table i)) at old mid new r q s t)
+    subst (λ (k : ℕ). Spliced (rolesBody k table) at old new q) (sym (add-one i))
+    (spliced-then (rolesBody i table) (bytes 2 (row table i)) at old mid new r q s t)

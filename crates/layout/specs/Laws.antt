@@ -12,7 +12,7 @@ use lib.Dec.{eqb}
 use borrow.Author.Tests.{eq-eqb, eqb-true}
 use Rattle.sets.specs.Truth.{and-left, and-right, and-intro}
 use Rattle.numbers.specs.Numbers.{number, bytes, Bytes}
-use Rattle.numbers.specs.Laws.{number-bytes, bytes-number}
+use Rattle.numbers.specs.Laws.{drop-bytes, number-bytes, bytes-number}
 use Rattle.layout.specs.Layout.{lineOf, contents, joined, start, front, laid, kindAt, offsetAt, sizeAt, bodyAt, follows, contentsFit}
 use Rattle.layout.specs.Lists.{drop-past, part-rest, length-part}
 
@@ -27,14 +27,16 @@ unfolding contents
 length-contents kind offset [] = refl
 length-contents kind offset (size ∷ rest) =
     let r : length (contents (kind + 1) (offset + size) rest) ≡ 5 * length rest = length-contents (kind + 1) (offset + size) rest in
-    let a : length (lineOf kind offset size ++ contents (kind + 1) (offset + size) rest) ≡ length (lineOf kind offset size) + length (contents (kind + 1) (offset + size) rest) =
+    let a : length (lineOf kind offset size ++ contents (kind + 1) (offset + size) rest) ≡ length (lineOf kind offset size) + length
+    (contents (kind + 1) (offset + size) rest) =
     length-append (lineOf kind offset size) (contents (kind + 1) (offset + size) rest) in
     let l : length (lineOf kind offset size) ≡ 5 = length-line kind offset size in
     omega arith
 
 pub length-front : (sizes : List ℕ) → length (front sizes) ≡ start (length sizes)
 unfolding bytes
-length-front sizes = let r : length (contents 1 (start (length sizes)) sizes) ≡ 5 * length sizes = length-contents 1 (start (length sizes)) sizes in omega arith
+length-front sizes = let r : length (contents 1 (start (length sizes)) sizes) ≡ 5 * length sizes =
+    length-contents 1 (start (length sizes)) sizes in omega arith
 
 -- ---- the bodies that the contents lead to
 
@@ -56,14 +58,16 @@ regroup p c m j = simp append-assoc
 shift : (p l c m b j : List ℕ) → p ++ ((l ++ c) ++ (m ++ (b ++ j))) ≡ (p ++ l) ++ (c ++ ((m ++ b) ++ j))
 shift p l c m b j = simp append-assoc
 
-module _ (i at : ℕ) (body : List ℕ) (rest : List (List ℕ)) (s : List ℕ) (l : Lines i at (body ∷ rest) s) (small : length s < 65536) (few : i < 255) where
+module _ (i at : ℕ) (body : List ℕ) (rest : List (List ℕ)) (s : List ℕ) (l : Lines i at (body ∷ rest) s) (small : length s < 65536)
+    (few : i < 255) where
   later : List ℕ
   later = contents (i + 1 + 1) (at + length body) (map length rest)
 
   -- from the line on
   from-line : drop (1 + 5 * i) s ≡ (lineOf (i + 1) at (length body) ++ later) ++ (l .mid ++ (body ++ joined rest))
   unfolding contents joined later
-  from-line = ap₂ (λ (k : ℕ) (t : List ℕ). drop k t) (let z : 1 + 5 * i ≡ 1 + 5 * i + 0 = omega arith in z) (l .split) ∙ drop-past (l .pre) ((lineOf (i + 1) at (length body) ++ later) ++ (l .mid ++ (body ++ joined rest))) (1 + 5 * i) 0 (l .begins)
+  from-line = ap₂ (λ (k : ℕ) (t : List ℕ). drop k t) (let z : 1 + 5 * i ≡ 1 + 5 * i + 0 = omega arith in z) (l .split)
+      ∙ drop-past (l .pre) ((lineOf (i + 1) at (length body) ++ later) ++ (l .mid ++ (body ++ joined rest))) (1 + 5 * i) 0 (l .begins)
 
   -- from the body on
   before-body : List ℕ
@@ -82,11 +86,13 @@ module _ (i at : ℕ) (body : List ℕ) (rest : List (List ℕ)) (s : List ℕ) 
       let z : length (l .pre) + (length (contents (i + 1) at (length body ∷ map length rest)) + length (l .mid)) ≡ at = omega arith in z)
 
   from-body : drop at s ≡ body ++ joined rest
-  from-body = ap₂ (λ (k : ℕ) (t : List ℕ). drop k t) (let z : at ≡ at + 0 = omega arith in z) split-body ∙ drop-past before-body (body ++ joined rest) at 0 length-before
+  from-body = ap₂ (λ (k : ℕ) (t : List ℕ). drop k t) (let z : at ≡ at + 0 = omega arith in z) split-body
+      ∙ drop-past before-body (body ++ joined rest) at 0 length-before
 
   at-small : at + length body < 65536
   at-small =
-      let a : length s ≡ length before-body + length (body ++ joined rest) = ap length split-body ∙ length-append before-body (body ++ joined rest) in
+      let a : length s ≡ length before-body + length (body ++ joined rest) = ap length split-body
+      ∙ length-append before-body (body ++ joined rest) in
       let b : length (body ++ joined rest) ≡ length body + length (joined rest) = length-append body (joined rest) in
       let c : length before-body ≡ at = length-before in
       omega arith
@@ -100,17 +106,22 @@ module _ (i at : ℕ) (body : List ℕ) (rest : List (List ℕ)) (s : List ℕ) 
   line-offset : offsetAt s i ≡ at
   unfolding bytes
   line-offset =
-      ap (number 2) (ap (λ (k : ℕ). drop k s) (let z : 2 + 5 * i ≡ 1 + 5 * i + 1 = omega arith in z) ∙ sym (drop-drop 1 (1 + 5 * i) s) ∙ ap (drop 1) from-line)
-      ∙ number-bytes 2 at ((bytes 2 (length body) ++ later) ++ (l .mid ++ (body ++ joined rest))) (let z : at + length body < 65536 = at-small in omega arith)
+      ap (number 2) (ap (λ (k : ℕ). drop k s) (let z : 2 + 5 * i ≡ 1 + 5 * i + 1 = omega arith in z) ∙ sym (drop-drop 1 (1 + 5 * i) s)
+      ∙ ap (drop 1) from-line)
+      ∙ number-bytes 2 at ((bytes 2 (length body) ++ later) ++ (l .mid ++ (body ++ joined rest)))
+      (let z : at + length body < 65536 = at-small in omega arith)
 
   line-size : sizeAt s i ≡ length body
   unfolding bytes
   line-size =
-      ap (number 2) (ap (λ (k : ℕ). drop k s) (let z : 4 + 5 * i ≡ 1 + 5 * i + 3 = omega arith in z) ∙ sym (drop-drop 3 (1 + 5 * i) s) ∙ ap (drop 3) from-line)
-      ∙ number-bytes 2 (length body) (later ++ (l .mid ++ (body ++ joined rest))) (let z : at + length body < 65536 = at-small in omega arith)
+      ap (number 2) (ap (λ (k : ℕ). drop k s) (let z : 4 + 5 * i ≡ 1 + 5 * i + 3 = omega arith in z) ∙ sym (drop-drop 3 (1 + 5 * i) s)
+      ∙ ap (drop 3) from-line)
+      ∙ number-bytes 2 (length body) (later ++ (l .mid ++ (body ++ joined rest)))
+      (let z : at + length body < 65536 = at-small in omega arith)
 
   line-body : bodyAt s i ≡ body
-  line-body = ap₂ (λ (a b : ℕ). take a (drop b s)) line-size line-offset ∙ ap (take (length body)) from-body ∙ take-append-seam body (joined rest)
+  line-body = ap₂ (λ (a b : ℕ). take a (drop b s)) line-size line-offset ∙ ap (take (length body)) from-body
+      ∙ take-append-seam body (joined rest)
 
   lines-tail : Lines (i + 1) (at + length body) rest s
   unfolding contents joined later
@@ -132,7 +143,8 @@ module _ (i at : ℕ) (body : List ℕ) (rest : List (List ℕ)) (s : List ℕ) 
 
 -- ---- what was laid out is read back
 
-lines-follow : (i at : ℕ) (bodies : List (List ℕ)) (s : List ℕ) → Lines i at bodies s → length s < 65536 → i + length bodies < 256 → follows (length bodies) i at s ≡ true
+lines-follow : (i at : ℕ) (bodies : List (List ℕ)) (s : List ℕ) → Lines i at bodies s → length s < 65536 → i + length bodies < 256
+    → follows (length bodies) i at s ≡ true
 unfolding follows contents joined
 lines-follow i at [] s l small few =
     eq-eqb at (length s) (let a : length s ≡ length (l .pre ++ (l .mid ++ [])) = ap length (l .split) in
@@ -142,11 +154,13 @@ lines-follow i at [] s l small few =
     omega arith)
 lines-follow i at (body ∷ rest) s l small few =
     let h : i < 255 = omega arith in
-    and-intro (and-intro (eq-eqb (kindAt s i) (i + 1) (line-kind i at body rest s l small h)) (eq-eqb (offsetAt s i) at (line-offset i at body rest s l small h)))
+    and-intro (and-intro (eq-eqb (kindAt s i) (i + 1) (line-kind i at body rest s l small h))
+    (eq-eqb (offsetAt s i) at (line-offset i at body rest s l small h)))
     (ap (λ (k : ℕ). follows (length rest) (i + 1) (at + k) s) (line-size i at body rest s l small h)
     ∙ lines-follow (i + 1) (at + length body) rest s (lines-tail i at body rest s l small h) small (omega arith))
 
-lines-bodies : (i at : ℕ) (bodies : List (List ℕ)) (s : List ℕ) → Lines i at bodies s → length s < 65536 → i + length bodies < 256 → bodiesFrom (length bodies) i s ≡ bodies
+lines-bodies : (i at : ℕ) (bodies : List (List ℕ)) (s : List ℕ) → Lines i at bodies s → length s < 65536 → i + length bodies < 256
+    → bodiesFrom (length bodies) i s ≡ bodies
 unfolding bodiesFrom
 lines-bodies i at [] s l small few = refl
 lines-bodies i at (body ∷ rest) s l small few =
@@ -183,7 +197,8 @@ module _ (bodies : List (List ℕ)) (small : length (laid bodies) < 65536) (few 
       (lines-follow 0 (start (length bodies)) bodies (laid bodies) all-lines small (let z : 0 + length bodies < 256 = omega arith in z))
 
   pub laid-bodies : bodiesFrom (length bodies) 0 (laid bodies) ≡ bodies
-  laid-bodies = lines-bodies 0 (start (length bodies)) bodies (laid bodies) all-lines small (let z : 0 + length bodies < 256 = omega arith in z)
+  laid-bodies = lines-bodies 0 (start (length bodies)) bodies (laid bodies) all-lines small
+      (let z : 0 + length bodies < 256 = omega arith in z)
 
 -- ---- a sheet whose contents fit is laid out from its bodies
 
@@ -191,26 +206,32 @@ pub follows-end : (k i at : ℕ) (s : List ℕ) → follows k i at s ≡ true �
 unfolding follows
 follows-end zero i at s e = let z : at ≡ length s = eqb-true at (length s) e in omega arith
 follows-end (suc k) i at s e =
-    let r : at + sizeAt s i ≤ length s = follows-end k (i + 1) (at + sizeAt s i) s (and-right (eqb (kindAt s i) (i + 1) && eqb (offsetAt s i) at) (follows k (i + 1) (at + sizeAt s i) s) e) in
+    let r : at + sizeAt s i ≤ length s =
+    follows-end k (i + 1) (at + sizeAt s i) s
+    (and-right (eqb (kindAt s i) (i + 1) && eqb (offsetAt s i) at) (follows k (i + 1) (at + sizeAt s i) s) e) in
     omega arith
-
-pub drop-bytes : (k : ℕ) (s : List ℕ) → Bytes s → Bytes (drop k s)
-drop-bytes k s h i = subst (λ (x : ℕ). x < 256) (sym (getD-drop k s i 0)) (h (k + i))
 
 -- each body lies within the sheet
 pub body-inside : (k i at : ℕ) (s : List ℕ) (j : ℕ) → follows k i at s ≡ true → j < k → offsetAt s (i + j) + sizeAt s (i + j) ≤ length s
 unfolding follows
 body-inside zero i at s j e h = absurd (not-suc-le-zero h)
 body-inside (suc k) i at s zero e h =
-    let o : offsetAt s i ≡ at = eqb-true (offsetAt s i) at (and-right (eqb (kindAt s i) (i + 1)) (eqb (offsetAt s i) at) (and-left (eqb (kindAt s i) (i + 1) && eqb (offsetAt s i) at) (follows k (i + 1) (at + sizeAt s i) s) e)) in
-    let r : at + sizeAt s i ≤ length s = follows-end k (i + 1) (at + sizeAt s i) s (and-right (eqb (kindAt s i) (i + 1) && eqb (offsetAt s i) at) (follows k (i + 1) (at + sizeAt s i) s) e) in
+    let o : offsetAt s i ≡ at =
+    eqb-true (offsetAt s i) at
+    (and-right (eqb (kindAt s i) (i + 1)) (eqb (offsetAt s i) at)
+    (and-left (eqb (kindAt s i) (i + 1) && eqb (offsetAt s i) at) (follows k (i + 1) (at + sizeAt s i) s) e)) in
+    let r : at + sizeAt s i ≤ length s =
+    follows-end k (i + 1) (at + sizeAt s i) s
+    (and-right (eqb (kindAt s i) (i + 1) && eqb (offsetAt s i) at) (follows k (i + 1) (at + sizeAt s i) s) e) in
     subst (λ (m : ℕ). offsetAt s m + sizeAt s m ≤ length s) (sym (add-zero i)) (omega arith)
 body-inside (suc k) i at s (suc j) e h =
     subst (λ (m : ℕ). offsetAt s m + sizeAt s m ≤ length s) (let z : i + 1 + j ≡ i + suc j = omega arith in z)
-    (body-inside k (i + 1) (at + sizeAt s i) s j (and-right (eqb (kindAt s i) (i + 1) && eqb (offsetAt s i) at) (follows k (i + 1) (at + sizeAt s i) s) e) (le-of-suc-le-suc h))
+    (body-inside k (i + 1) (at + sizeAt s i) s j
+    (and-right (eqb (kindAt s i) (i + 1) && eqb (offsetAt s i) at) (follows k (i + 1) (at + sizeAt s i) s) e) (le-of-suc-le-suc h))
 
 -- a line is the five bytes that it was read from
-line-back : (i : ℕ) (s : List ℕ) → Bytes s → 6 + 5 * i ≤ length s → kindAt s i ≡ i + 1 → lineOf (i + 1) (offsetAt s i) (sizeAt s i) ≡ take 5 (drop (1 + 5 * i) s)
+line-back : (i : ℕ) (s : List ℕ) → Bytes s → 6 + 5 * i ≤ length s → kindAt s i ≡ i + 1
+    → lineOf (i + 1) (offsetAt s i) (sizeAt s i) ≡ take 5 (drop (1 + 5 * i) s)
 unfolding number
 line-back i s b h e =
     let x : List ℕ = drop (1 + 5 * i) s in
@@ -218,15 +239,20 @@ line-back i s b h e =
     let n2 : length (drop (2 + 5 * i) s) ≡ length s - (2 + 5 * i) = length-drop (2 + 5 * i) s in
     let n4 : length (drop (4 + 5 * i) s) ≡ length s - (4 + 5 * i) = length-drop (4 + 5 * i) s in
     let k : number 1 (drop (1 + 5 * i) s) ≡ i + 1 =
-    (let g : getD (drop (1 + 5 * i) s) 0 0 ≡ kindAt s i = getD-drop (1 + 5 * i) s 0 0 ∙ ap (λ (m : ℕ). getD s m 0) (add-zero (1 + 5 * i)) in omega arith) in
-    let one : bytes 1 (i + 1) ≡ take 1 (drop (1 + 5 * i) s) = ap (bytes 1) (sym k) ∙ bytes-number 1 (drop (1 + 5 * i) s) (drop-bytes (1 + 5 * i) s b) (omega arith) in
+    (let g : getD (drop (1 + 5 * i) s) 0 0 ≡ kindAt s i = getD-drop (1 + 5 * i) s 0 0 ∙ ap (λ (m : ℕ). getD s m 0) (add-zero (1 + 5 * i)) in
+    omega arith) in
+    let one : bytes 1 (i + 1) ≡ take 1 (drop (1 + 5 * i) s) = ap (bytes 1) (sym k)
+    ∙ bytes-number 1 (drop (1 + 5 * i) s) (drop-bytes (1 + 5 * i) s b) (omega arith) in
     let two : bytes 2 (offsetAt s i) ≡ take 2 (drop 1 (drop (1 + 5 * i) s)) =
-    bytes-number 2 (drop (2 + 5 * i) s) (drop-bytes (2 + 5 * i) s b) (omega arith) ∙ ap (take 2) (ap (λ (m : ℕ). drop m s) (let z : 2 + 5 * i ≡ 1 + 5 * i + 1 = omega arith in z) ∙ sym (drop-drop 1 (1 + 5 * i) s)) in
+    bytes-number 2 (drop (2 + 5 * i) s) (drop-bytes (2 + 5 * i) s b) (omega arith)
+    ∙ ap (take 2) (ap (λ (m : ℕ). drop m s) (let z : 2 + 5 * i ≡ 1 + 5 * i + 1 = omega arith in z) ∙ sym (drop-drop 1 (1 + 5 * i) s)) in
     let three : bytes 2 (sizeAt s i) ≡ take 2 (drop 2 (drop 1 (drop (1 + 5 * i) s))) =
     bytes-number 2 (drop (4 + 5 * i) s) (drop-bytes (4 + 5 * i) s b) (omega arith)
-    ∙ ap (take 2) (ap (λ (m : ℕ). drop m s) (let z : 4 + 5 * i ≡ 1 + 5 * i + 3 = omega arith in z) ∙ sym (drop-drop 3 (1 + 5 * i) s) ∙ sym (drop-drop 2 1 (drop (1 + 5 * i) s))) in
+    ∙ ap (take 2) (ap (λ (m : ℕ). drop m s) (let z : 4 + 5 * i ≡ 1 + 5 * i + 3 = omega arith in z) ∙ sym (drop-drop 3 (1 + 5 * i) s)
+    ∙ sym (drop-drop 2 1 (drop (1 + 5 * i) s))) in
     ap₂ (λ (p q : List ℕ). p ++ q) one (ap₂ (λ (p q : List ℕ). p ++ q) two three)
-    ∙ sym (take-add 1 4 (drop (1 + 5 * i) s) ∙ ap (λ (q : List ℕ). take 1 (drop (1 + 5 * i) s) ++ q) (take-add 2 2 (drop 1 (drop (1 + 5 * i) s))))
+    ∙ sym (take-add 1 4 (drop (1 + 5 * i) s)
+    ∙ ap (λ (q : List ℕ). take 1 (drop (1 + 5 * i) s) ++ q) (take-add 2 2 (drop 1 (drop (1 + 5 * i) s))))
 
 record Back (k i at : ℕ) (s : List ℕ) : Type 0 where
   lines : drop (1 + 5 * i) s ≡ contents (i + 1) at (map length (bodiesFrom k i s)) ++ drop (1 + 5 * (i + k)) s
@@ -239,10 +265,12 @@ follows-back zero i at s b e h = record {
   parts = ap (λ (m : ℕ). drop m s) (eqb-true at (length s) e) ∙ drop-length s;
 }
 follows-back (suc k) i at s b e h =
-    let front : (eqb (kindAt s i) (i + 1) && eqb (offsetAt s i) at) ≡ true = and-left (eqb (kindAt s i) (i + 1) && eqb (offsetAt s i) at) (follows k (i + 1) (at + sizeAt s i) s) e in
+    let front : (eqb (kindAt s i) (i + 1) && eqb (offsetAt s i) at) ≡ true =
+    and-left (eqb (kindAt s i) (i + 1) && eqb (offsetAt s i) at) (follows k (i + 1) (at + sizeAt s i) s) e in
     let kind : kindAt s i ≡ i + 1 = eqb-true (kindAt s i) (i + 1) (and-left (eqb (kindAt s i) (i + 1)) (eqb (offsetAt s i) at) front) in
     let o : offsetAt s i ≡ at = eqb-true (offsetAt s i) at (and-right (eqb (kindAt s i) (i + 1)) (eqb (offsetAt s i) at) front) in
-    let more : follows k (i + 1) (at + sizeAt s i) s ≡ true = and-right (eqb (kindAt s i) (i + 1) && eqb (offsetAt s i) at) (follows k (i + 1) (at + sizeAt s i) s) e in
+    let more : follows k (i + 1) (at + sizeAt s i) s ≡ true =
+    and-right (eqb (kindAt s i) (i + 1) && eqb (offsetAt s i) at) (follows k (i + 1) (at + sizeAt s i) s) e in
     let end : at + sizeAt s i ≤ length s = follows-end k (i + 1) (at + sizeAt s i) s more in
     let size : length (bodyAt s i) ≡ sizeAt s i = length-part (offsetAt s i) (sizeAt s i) s (omega arith) in
     let r : Back k (i + 1) (at + sizeAt s i) s = follows-back k (i + 1) (at + sizeAt s i) s b more (omega arith) in
@@ -252,9 +280,12 @@ follows-back (suc k) i at s b e h =
           ∙ ap₂ (λ (p q : List ℕ). p ++ q)
           (sym (line-back i s b (omega arith) kind) ∙ ap₂ (lineOf (i + 1)) o (sym size))
           (ap (λ (m : ℕ). drop m s) (let z : 1 + 5 * i + 5 ≡ 1 + 5 * (i + 1) = omega arith in z) ∙ r .lines
-          ∙ ap₂ (λ (m n : ℕ). contents (i + 1 + 1) (at + m) (map length (bodiesFrom k (i + 1) s)) ++ drop (1 + 5 * n) s) (sym size) (let z : i + 1 + k ≡ i + suc k = omega arith in z))
-          ∙ sym (append-assoc (lineOf (i + 1) at (length (bodyAt s i))) (contents (i + 1 + 1) (at + length (bodyAt s i)) (map length (bodiesFrom k (i + 1) s))) (drop (1 + 5 * (i + suc k)) s));
-      parts = part-rest at (sizeAt s i) s ∙ ap₂ (λ (p q : List ℕ). p ++ q) (ap (λ (m : ℕ). take (sizeAt s i) (drop m s)) (sym o)) (r .parts);
+          ∙ ap₂ (λ (m n : ℕ). contents (i + 1 + 1) (at + m) (map length (bodiesFrom k (i + 1) s)) ++ drop (1 + 5 * n) s) (sym size)
+          (let z : i + 1 + k ≡ i + suc k = omega arith in z))
+          ∙ sym (append-assoc (lineOf (i + 1) at (length (bodyAt s i)))
+          (contents (i + 1 + 1) (at + length (bodyAt s i)) (map length (bodiesFrom k (i + 1) s))) (drop (1 + 5 * (i + suc k)) s));
+      parts = part-rest at (sizeAt s i) s
+          ∙ ap₂ (λ (p q : List ℕ). p ++ q) (ap (λ (m : ℕ). take (sizeAt s i) (drop m s)) (sym o)) (r .parts);
     }
 
 length-bodies : (k i : ℕ) (s : List ℕ) → length (bodiesFrom k i s) ≡ k
@@ -263,18 +294,21 @@ length-bodies zero i s = refl
 length-bodies (suc k) i s = ap suc (length-bodies k (i + 1) s)
 
 -- a sheet whose contents fit is laid out from the bodies that they lead to
-pub fits-laid : (count : ℕ) (s : List ℕ) → Bytes s → count < 256 → contentsFit count s ≡ true → start count ≤ length s → laid (bodiesFrom count 0 s) ≡ s
+pub fits-laid : (count : ℕ) (s : List ℕ) → Bytes s → count < 256 → contentsFit count s ≡ true → start count ≤ length s
+    → laid (bodiesFrom count 0 s) ≡ s
 unfolding number
 fits-laid count s b few e h =
     let many : length (map length (bodiesFrom count 0 s)) ≡ count = length-map (bodiesFrom count 0 s) length ∙ length-bodies count 0 s in
     let byte : getD s 0 0 ≡ count = eqb-true (getD s 0 0) count (and-left (eqb (getD s 0 0) count) (follows count 0 (start count) s) e) in
     let r : Back count 0 (start count) s =
-    follows-back count 0 (start count) s b (and-right (eqb (getD s 0 0) count) (follows count 0 (start count) s) e) (let z : 1 + 5 * (0 + count) ≤ length s = omega arith in z) in
+    follows-back count 0 (start count) s b (and-right (eqb (getD s 0 0) count) (follows count 0 (start count) s) e)
+    (let z : 1 + 5 * (0 + count) ≤ length s = omega arith in z) in
     let n : number 1 s ≡ count = omega arith in
     let first : bytes 1 count ≡ take 1 s = ap (bytes 1) (sym n) ∙ bytes-number 1 s b (omega arith) in
     ap (λ (m : ℕ). (bytes 1 m ++ contents 1 (start m) (map length (bodiesFrom count 0 s))) ++ joined (bodiesFrom count 0 s)) many
     ∙ append-assoc (bytes 1 count) (contents 1 (start count) (map length (bodiesFrom count 0 s))) (joined (bodiesFrom count 0 s))
     ∙ ap₂ (λ (p q : List ℕ). p ++ q) first
-    (ap (λ (q : List ℕ). contents 1 (start count) (map length (bodiesFrom count 0 s)) ++ q) (sym (r .parts) ∙ ap (λ (m : ℕ). drop (1 + 5 * m) s) (let z : count ≡ 0 + count = omega arith in z))
+    (ap (λ (q : List ℕ). contents 1 (start count) (map length (bodiesFrom count 0 s)) ++ q)
+    (sym (r .parts) ∙ ap (λ (m : ℕ). drop (1 + 5 * m) s) (let z : count ≡ 0 + count = omega arith in z))
     ∙ sym (r .lines))
     ∙ take-append-drop 1 s

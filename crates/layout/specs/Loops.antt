@@ -16,7 +16,8 @@ use Rattle.layout.specs.Laws.{length-line, length-contents}
 
 -- one line more
 pub follows-more : (count i at : ℕ) (s : List ℕ) → i < count
-    → follows (count - i) i at s ≡ (eqb (kindAt s i) (i + 1) && eqb (offsetAt s i) at && follows (count - (i + 1)) (i + 1) (at + sizeAt s i) s)
+    → follows (count - i) i at s ≡ (eqb (kindAt s i) (i + 1) && eqb (offsetAt s i) at
+    && follows (count - (i + 1)) (i + 1) (at + sizeAt s i) s)
 unfolding follows
 follows-more count i at s h = ap (λ (k : ℕ). follows k i at s) (let z : count - i ≡ suc (count - (i + 1)) = omega arith in z)
 
@@ -51,14 +52,16 @@ module _ (sizes : List ℕ) (at : ℕ) (old : List ℕ) where
       let q : to + 5 * (length sizes - i) ≡ at + 5 * length sizes = w .place in
       record {
         left = w .left
-            ∙ ap (λ (l : List ℕ). sets room to (contents (i + 1) offset l)) (drop-cons sizes i 0 h ∙ ap (λ (k : ℕ). getD sizes i 0 ∷ drop k sizes) (let z : suc i ≡ i + 1 = omega arith in z))
+            ∙ ap (λ (l : List ℕ). sets room to (contents (i + 1) offset l))
+            (drop-cons sizes i 0 h ∙ ap (λ (k : ℕ). getD sizes i 0 ∷ drop k sizes) (let z : suc i ≡ i + 1 = omega arith in z))
             ∙ sym (sets-append line rest room to)
             ∙ ap₂ (λ (l : List ℕ) (k : ℕ). sets l k rest) (sym (s .stored)) (sym p);
         place = omega arith;
         same = spliced-length line to room new r s ∙ w .same;
       }
 
-  pub writing-done : (room : List ℕ) (to offset i : ℕ) → Writing sizes at old room to offset i → length sizes ≤ i → Spliced (lines sizes) at old room to
+  pub writing-done : (room : List ℕ) (to offset i : ℕ) → Writing sizes at old room to offset i → length sizes ≤ i
+      → Spliced (lines sizes) at old room to
   unfolding contents
   writing-done room to offset i w h =
       let n : length (lines sizes) ≡ 5 * length sizes = length-contents 1 (start (length sizes)) sizes in

@@ -23,7 +23,8 @@ use Rattle.layout.specs.Lists.{length-part}
 use Rattle.bodies.specs.declared.Counts.{Counts as CountsOf}
 use Rattle.bodies.specs.Tables.{length-tabled}
 use Rattle.bodies.specs.Bodies.{setAt, setsIn}
-use Rattle.reading.specs.Reading.{countsOf, arrowsOn, blockRead, layoutFits, countsRight, bodiesMatch, setsInside, arrowsRight, kindsRight, readLines, readVerdict}
+use Rattle.reading.specs.Reading.{countsOf, arrowsOn, blockRead, layoutFits, countsRight, bodiesMatch, setsInside, arrowsRight}
+use Rattle.reading.specs.Reading.{kindsRight, readLines, readVerdict}
 
 -- ---- the tests
 

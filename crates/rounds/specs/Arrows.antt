@@ -21,8 +21,7 @@ use Rattle.tables.specs.Laws.{row-at, rows-at, keeps-row, named-below}
 use Rattle.arrows.specs.Arrows.{Arrow, known, allKnown, arrowsFit, rowAt, tableOf, held, place, arrowAt, arrowsOf}
 use Rattle.arrows.specs.Lists.{member}
 use Rattle.arrows.specs.Places.{Ranged, known-ranged, arrowAt-place}
-use Rattle.arrows.specs.Table.{row-condition, row-other, column-condition, column-other, known-in, rows-filled, held-filled, length-filled}
-use Rattle.arrows.specs.Table.{arrowOn, on-ranged, on-held}
+use Rattle.arrows.specs.Table.{row-condition, row-other, column-condition, column-other, known-in, rows-filled, held-filled, length-filled, arrowOn, on-ranged, on-held}
 use Rattle.arrows.specs.Codec.{arrows-fit, table-of-arrows}
 use Rattle.arrows.specs.Rows.{Kept, kindRows}
 use Rattle.rounds.specs.Tests.{keeps-exactly}
@@ -48,7 +47,8 @@ module _ (n : ℕ) (table : List ℕ) (k : Kept n table) where
       go : Dec (y .kind ≡ 0) → known n y ≡ true
       go (yes z) =
           let at : 0 * 64 + y .to ≡ rowAt y = sym (row-condition y z ∙ let w : y .to ≡ 0 * 64 + y .to = omega arith in w) in
-          let p = names 0 (y .to) (y .from) (omega arith) (q .to-in) (ap₂ (λ (i s : ℕ). has (row table i) s) at (sym (column-condition y z)) ∙ e) in
+          let p = names 0 (y .to) (y .from) (omega arith) (q .to-in)
+          (ap₂ (λ (i s : ℕ). has (row table i) s) at (sym (column-condition y z)) ∙ e) in
           and-intro (and-intro kind-known (lt-ltb (y .from) n (p .1))) (lt-ltb (y .to) n (p .0))
       go (no z) =
           let at : y .kind * 64 + y .from ≡ rowAt y = sym (row-other y z) in
@@ -135,9 +135,11 @@ module _ (n : ℕ) (l : List Arrow) (h : n ≤ 64) (k : allKnown n l ≡ true) w
 
       kinds : (kind : ℕ) → kind < 4 → keeps n n (kindRows (tableOf l) kind) ≡ true
       kinds kind d =
-          let n64 : length (kindRows (tableOf l) kind) ≡ 64 = rows-at (kind * 64) 64 (tableOf l) (let r : length (tableOf l) ≡ 256 = rows in omega arith) in
+          let n64 : length (kindRows (tableOf l) kind) ≡ 64 =
+          rows-at (kind * 64) 64 (tableOf l) (let r : length (tableOf l) ≡ 256 = rows in omega arith) in
           keeps-exactly n n (kindRows (tableOf l) kind) .1
           (λ r s j e.
-          let p = row-names (kind * 64 + r) s (omega arith) (sym (ap (λ (x : ℕ). has x s) (row-at (kind * 64) 64 (tableOf l) r (omega arith))) ∙ e) in
+          let p = row-names (kind * 64 + r) s (omega arith)
+          (sym (ap (λ (x : ℕ). has x s) (row-at (kind * 64) 64 (tableOf l) r (omega arith))) ∙ e) in
           let q : (kind * 64 + r) % 64 < n = p .0 in
           (omega arith, p .1))

@@ -25,7 +25,8 @@ module _ (x y : Arrow) where
   pub test-before : before x y ≡ true → Before x y
   test-before e = outside (or-cases (ltb (x .kind) (y .kind)) (eqb (x .kind) (y .kind) && inner) e)
     where
-      inside : (ltb (x .from) (y .from) ≡ true) ⊎ ((eqb (x .from) (y .from) && ltb (x .to) (y .to)) ≡ true) → (x .from < y .from) ⊎ ((x .from ≡ y .from) × (x .to < y .to))
+      inside : (ltb (x .from) (y .from) ≡ true) ⊎ ((eqb (x .from) (y .from) && ltb (x .to) (y .to)) ≡ true) → (x .from < y .from)
+          ⊎ ((x .from ≡ y .from) × (x .to < y .to))
       inside (inl f) = inl (ltb-true (x .from) (y .from) f)
       inside (inr f) = inr (
         eqb-true (x .from) (y .from) (and-left (eqb (x .from) (y .from)) (ltb (x .to) (y .to)) f),
@@ -36,16 +37,20 @@ module _ (x y : Arrow) where
       outside (inl f) = inl (ltb-true (x .kind) (y .kind) f)
       outside (inr f) = inr (
         eqb-true (x .kind) (y .kind) (and-left (eqb (x .kind) (y .kind)) inner f),
-        inside (or-cases (ltb (x .from) (y .from)) (eqb (x .from) (y .from) && ltb (x .to) (y .to)) (and-right (eqb (x .kind) (y .kind)) inner f)),
+        inside (or-cases (ltb (x .from) (y .from)) (eqb (x .from) (y .from) && ltb (x .to) (y .to))
+            (and-right (eqb (x .kind) (y .kind)) inner f)),
       )
 
   pub before-test : Before x y → before x y ≡ true
   before-test (inl h) = or-first (eqb (x .kind) (y .kind) && inner) (lt-ltb (x .kind) (y .kind) h)
   before-test (inr (e, inl h)) =
-      or-second (ltb (x .kind) (y .kind)) (and-intro (eq-eqb (x .kind) (y .kind) e) (or-first (eqb (x .from) (y .from) && ltb (x .to) (y .to)) (lt-ltb (x .from) (y .from) h)))
+      or-second (ltb (x .kind) (y .kind))
+      (and-intro (eq-eqb (x .kind) (y .kind) e)
+      (or-first (eqb (x .from) (y .from) && ltb (x .to) (y .to)) (lt-ltb (x .from) (y .from) h)))
   before-test (inr (e, inr (f, h))) =
       or-second (ltb (x .kind) (y .kind))
-      (and-intro (eq-eqb (x .kind) (y .kind) e) (or-second (ltb (x .from) (y .from)) (and-intro (eq-eqb (x .from) (y .from) f) (lt-ltb (x .to) (y .to) h))))
+      (and-intro (eq-eqb (x .kind) (y .kind) e)
+      (or-second (ltb (x .from) (y .from)) (and-intro (eq-eqb (x .from) (y .from) f) (lt-ltb (x .to) (y .to) h))))
 
 before-then : (x y z : Arrow) → Before x y → Before y z → Before x z
 before-then x y z (inl a) (inl b) = inl (omega arith)
@@ -54,7 +59,8 @@ before-then x y z (inr a) (inl b) = inl (let e : x .kind ≡ y .kind = a .0 in o
 before-then x y z (inr (e, inl a)) (inr (f, inl b)) = inr (e ∙ f, inl (omega arith))
 before-then x y z (inr (e, inl a)) (inr (f, inr b)) = inr (e ∙ f, inl (let q : y .from ≡ z .from = b .0 in omega arith))
 before-then x y z (inr (e, inr a)) (inr (f, inl b)) = inr (e ∙ f, inl (let q : x .from ≡ y .from = a .0 in omega arith))
-before-then x y z (inr (e, inr a)) (inr (f, inr b)) = inr (e ∙ f, inr (a .0 ∙ b .0, let p : x .to < y .to = a .1 in let q : y .to < z .to = b .1 in omega arith))
+before-then x y z (inr (e, inr a)) (inr (f, inr b)) =
+    inr (e ∙ f, inr (a .0 ∙ b .0, let p : x .to < y .to = a .1 in let q : y .to < z .to = b .1 in omega arith))
 
 -- ---- lists of arrows
 
@@ -79,7 +85,8 @@ test-known n x e =
     }
 
 known-test : (n : ℕ) (x : Arrow) → Known n x → known n x ≡ true
-known-test n x k = and-intro (and-intro (le-leb (x .kind) 3 (k .kind-known)) (lt-ltb (x .from) n (k .from-known))) (lt-ltb (x .to) n (k .to-known))
+known-test n x k = and-intro (and-intro (le-leb (x .kind) 3 (k .kind-known)) (lt-ltb (x .from) n (k .from-known)))
+    (lt-ltb (x .to) n (k .to-known))
 
 abbrev pub AllKnown : ℕ → List Arrow → Type 0
 AllKnown n l = (i : ℕ) → i < length l → Known n (arrowNo l i)
@@ -124,7 +131,8 @@ unfolding ascending
 all-ascends [] a = refl
 all-ascends (x ∷ []) a = refl
 all-ascends (x ∷ y ∷ rest) a =
-    and-intro (before-test x y (a 0 1 (omega arith) (omega arith))) (all-ascends (y ∷ rest) (λ i j h k. a (suc i) (suc j) (omega arith) (omega arith)))
+    and-intro (before-test x y (a 0 1 (omega arith) (omega arith)))
+    (all-ascends (y ∷ rest) (λ i j h k. a (suc i) (suc j) (omega arith) (omega arith)))
 
 -- 5 is not given exactly if this holds
 pub arrows-exactly : (n : ℕ) (l : List Arrow) → (arrowsFit n l ≡ true) ↔ (AllKnown n l × Ascending l)

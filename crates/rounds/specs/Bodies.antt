@@ -88,7 +88,8 @@ marking-written body b e =
     parts : (l : List ℕ) → take 8 l ++ (take 8 (drop 8 l) ++ take 8 (drop 16 l)) ≡ take 24 l
     parts l =
         sym (take-add 8 16 l
-        ∙ ap (λ (q : List ℕ). take 8 l ++ q) (take-add 8 8 (drop 8 l) ∙ ap (λ (q : List ℕ). take 8 (drop 8 l) ++ take 8 q) (drop-drop 8 8 l)))
+        ∙ ap (λ (q : List ℕ). take 8 l ++ q)
+        (take-add 8 8 (drop 8 l) ∙ ap (λ (q : List ℕ). take 8 (drop 8 l) ++ take 8 q) (drop-drop 8 8 l)))
 
 -- ---- role sets
 
@@ -163,7 +164,8 @@ roles-fit n roles table h few k =
     ∙ subst (λ (b : Bool). within (cond b roles 0) (row table i) ≡ true) (lt-ltb i n low)
     (every-at (length table) (λ j. within (cond (ltb j n) roles 0) (row table j)) k i (omega arith)))
 
-pub roles-kept : (rows n roles : ℕ) (body : List ℕ) → length body ≡ 2 * n → roleSetsFit roles body ≡ true → keeps n roles (setsIn rows body) ≡ true
+pub roles-kept : (rows n roles : ℕ) (body : List ℕ) → length body ≡ 2 * n → roleSetsFit roles body ≡ true
+    → keeps n roles (setsIn rows body) ≡ true
 unfolding roleSetsFit keeps
 roles-kept rows n roles body e f =
     every-of (length (setsIn rows body)) (λ i. within (cond (ltb i n) roles 0) (row (setsIn rows body) i))

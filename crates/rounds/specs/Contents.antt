@@ -22,7 +22,8 @@ pub record Lines (count i at : ℕ) (s : List ℕ) : Type 0 where
   pub nothing : i ≡ count → at ≡ length s
 
 -- a line in front of those
-line-more : (count i at : ℕ) (s : List ℕ) → i < count → kindAt s i ≡ i + 1 → offsetAt s i ≡ at → Lines count (i + 1) (at + sizeAt s i) s → Lines count i at s
+line-more : (count i at : ℕ) (s : List ℕ) → i < count → kindAt s i ≡ i + 1 → offsetAt s i ≡ at → Lines count (i + 1) (at + sizeAt s i) s
+    → Lines count i at s
 line-more count i at s here kind offset rest = record {
   kinds = λ j h l. kinds j h l (decLe (i + 1) j);
   starts = λ h. offset;
@@ -60,7 +61,8 @@ follows-lines count (suc k) i at s c e =
     let kind = eqb (kindAt s i) (i + 1) in
     let offset = eqb (offsetAt s i) at in
     let line : (kind && offset) ≡ true = and-left (kind && offset) (follows k (i + 1) (at + sizeAt s i) s) e in
-    line-more count i at s (omega arith) (eqb-true (kindAt s i) (i + 1) (and-left kind offset line)) (eqb-true (offsetAt s i) at (and-right kind offset line))
+    line-more count i at s (omega arith) (eqb-true (kindAt s i) (i + 1) (and-left kind offset line))
+    (eqb-true (offsetAt s i) at (and-right kind offset line))
     (follows-lines count k (i + 1) (at + sizeAt s i) s (omega arith) (and-right (kind && offset) (follows k (i + 1) (at + sizeAt s i) s) e))
 
 lines-follow : (count k i at : ℕ) (s : List ℕ) → i + k ≡ count → Lines count i at s → follows k i at s ≡ true

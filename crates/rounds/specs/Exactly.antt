@@ -43,7 +43,8 @@ number-is-bytes (suc w) x = more-bytes (x % 256) (bytes w (x / 256)) (omega arit
 -- three numbers, one after the other
 three-bytes : (u v w x y z : ℕ) → Bytes (bytes u x ++ (bytes v y ++ bytes w z))
 three-bytes u v w x y z =
-    append-bytes (bytes u x) (bytes v y ++ bytes w z) (number-is-bytes u x) (append-bytes (bytes v y) (bytes w z) (number-is-bytes v y) (number-is-bytes w z))
+    append-bytes (bytes u x) (bytes v y ++ bytes w z) (number-is-bytes u x)
+    (append-bytes (bytes v y) (bytes w z) (number-is-bytes v y) (number-is-bytes w z))
 
 contents-bytes : (kind offset : ℕ) (sizes : List ℕ) → Bytes (contents kind offset sizes)
 unfolding contents
@@ -94,9 +95,13 @@ sheet-is-bytes g m =
 
 -- ---- exactly one sheet
 
-pub exactly-one : (block : List ℕ) (m : Marking) → length block ≡ 339 → first (contentLines (graphOf block) m) ≡ Verdict.Clear → (s : List ℕ)
+pub exactly-one : (block : List ℕ) (m : Marking) → length block ≡ 339 → first (contentLines (graphOf block) m) ≡ Verdict.Clear
+    → (s : List ℕ)
     → (Bytes s × Says s block m) ↔ (s ≡ sheetBytes (graphOf block) m)
 exactly-one block m whole e s = (
   λ p. one-sheet s block m (p .0) (p .1),
-  λ q. (subst Bytes (sym q) (sheet-is-bytes (graphOf block) m), subst (λ (t : List ℕ). Says t block m) (sym q) (read-written block m whole e)),
+  λ q. (
+    subst Bytes (sym q) (sheet-is-bytes (graphOf block) m),
+    subst (λ (t : List ℕ). Says t block m) (sym q) (read-written block m whole e),
+  ),
 )

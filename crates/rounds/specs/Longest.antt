@@ -41,7 +41,8 @@ arrows-long block m e =
     let g : Graph = graphOf block in
     length-body (row block 0) (turnedOf g) (arrowTable g) (table-kept block (graph-clear g m e)) refl
 
-pub longest : (block : List ℕ) (m : Marking) → first (contentLines (graphOf block) m) ≡ Verdict.Clear → length (sheetBytes (graphOf block) m) ≤ 37077
+pub longest : (block : List ℕ) (m : Marking) → first (contentLines (graphOf block) m) ≡ Verdict.Clear
+    → length (sheetBytes (graphOf block) m) ≤ 37077
 unfolding countKinds fromRows
 longest block m e =
     let g : Graph = graphOf block in
@@ -49,16 +50,19 @@ longest block m e =
     let t : List ℕ = arrowTable (graphOf block) in
     let f : Fitting (graphOf block) = clear-fitting g (graph-clear g m e) in
     let size : length (sheetBytes (graphOf block) m) ≡ lengthOut (graphOf block) = sheet-length g m in
-    let arrows : length (arrowsOut (graphOf block)) ≡ 3 * countKinds 4 (row block 0) (turnedOf (graphOf block)) (arrowTable (graphOf block)) =
+    let arrows : length (arrowsOut (graphOf block)) ≡ 3 * countKinds 4 (row block 0) (turnedOf (graphOf block))
+    (arrowTable (graphOf block)) =
     arrows-long block m e in
     let conditions : countOf (row block 0) (row (turnedOf (graphOf block))) ≤ 64 * row block 0 = count-most n (row (turnedOf g)) in
-    let responses : countOf (row block 0) (row (kindRows (arrowTable (graphOf block)) 1)) ≤ 64 * row block 0 = count-most n (row (kindRows t 1)) in
+    let responses : countOf (row block 0) (row (kindRows (arrowTable (graphOf block)) 1)) ≤ 64 * row block 0 =
+    count-most n (row (kindRows t 1)) in
     let in-place : countOf (row block 0) (row (kindRows (arrowTable (graphOf block)) 2)) ≡ countOf (row block 0) (row (g .includes)) =
     ap (λ (l : List ℕ). countOf n (row l)) (kind-lies block 2 (omega arith)) in
     let ex-place : countOf (row block 0) (row (kindRows (arrowTable (graphOf block)) 3)) ≡ countOf (row block 0) (row (g .excludes)) =
     ap (λ (l : List ℕ). countOf n (row l)) (kind-lies block 3 (omega arith)) in
     let both : countOf (row block 0) (row (g .includes)) + countOf (row block 0) (row (g .excludes)) ≤ 64 * row block 0 =
-    count-apart n (row (g .includes)) (row (g .excludes)) (every-at n (λ a. empty (meet (row (g .includes) a) (row (g .excludes) a))) (f .apart)) in
+    count-apart n (row (g .includes)) (row (g .excludes))
+    (every-at n (λ a. empty (meet (row (g .includes) a) (row (g .excludes) a))) (f .apart)) in
     let steps : row block 0 ≤ 64 = f .counted .steps-most in
     let people : row block 1 ≤ 16 = f .counted .people-most in
     omega arith

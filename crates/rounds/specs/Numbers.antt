@@ -1,69 +1,23 @@
 -- Each number is given exactly when the table says. The numbers of both tables go up, so that the first line that holds has the lowest number that
 -- holds: it is given exactly if its line holds and none before it. Assumes nothing.
-use Prim.Native.Nat.{ℕ, _≤_, _<_}
-use mathlib.Core.Path.{_≡_, refl, sym, ap, _∙_, subst}
+use Prim.Native.Nat.{ℕ, _<_}
+use mathlib.Core.Path.{_≡_, refl, ap}
 use mathlib.Core.Logic.{_↔_}
 use mathlib.Core.List.{List}
-use mathlib.Core.Bool.{Bool, true, false, not, _&&_, true≢false}
-use native.Mathlib.Omega.{arith}
+use mathlib.Core.Bool.{true, false, not, _&&_}
 use lib.ListN.{length}
 use lib.Dec.{ltb}
 use Rattle.moves.specs.declared.Marking.{Marking}
 use Rattle.moves.specs.declared.Verdict.{Verdict}
-use Rattle.moves.specs.First.{Line, first, numberOfVerdict, numberOf}
+use Rattle.moves.specs.First.{numberOfVerdict, numberOf}
 use Rattle.rules.specs.Graph.{Graph, setsFit}
 use Rattle.tables.specs.Tables.{countsFit, kindsApart}
 use Rattle.moves.specs.Move.{markingFits}
-use Rattle.moves.specs.Given.{holds, ascends, first-holds, first-lowest}
+use Rattle.moves.specs.Given.{holds, ascends, Lowest, given-exactly, nothing-exactly}
 use Rattle.reading.specs.Reading.{graphIn, layoutFits, countsRight, bodiesMatch, setsInside, arrowsRight, readLines, readVerdict}
 use Rattle.writing.specs.Writing.{sheetBytes}
 use Rattle.sheet.specs.Sheet.{writeLines, writeVerdict, writtenOf, theWritten, numberOfWritten, lengthOfWritten}
 use Rattle.sets.specs.Truth.{or-false}
-
--- ---- any table whose numbers go up
-
--- number k holds in the table, and no lower one
-pub record Lowest (k : ℕ) (lines : List Line) : Type 0 where
-  pub here : holds k lines ≡ true
-  pub least : (j : ℕ) → holds j lines ≡ true → k ≤ j
-
--- what is given holds
-given-holds : (lines : List Line) (v : Verdict) → first lines ≡ v → 0 < numberOfVerdict v → holds (numberOfVerdict v) lines ≡ true
-unfolding numberOfVerdict
-given-holds lines Verdict.Clear e h = absurd (let z : ⊥ = omega arith in z)
-given-holds lines (Verdict.Refused r) e h = first-holds lines r e
-
-pub given-exactly : (lines : List Line) → ascends 0 lines ≡ true → (k : ℕ) → 0 < k → (numberOfVerdict (first lines) ≡ k) ↔ Lowest k lines
-given-exactly lines up k h = (there, back)
-  where
-    there : numberOfVerdict (first lines) ≡ k → Lowest k lines
-    there e = record {
-      here = subst (λ (j : ℕ). holds j lines ≡ true) e (given-holds lines (first lines) refl (subst (λ (j : ℕ). 0 < j) (sym e) h));
-      least = λ j t. subst (λ (n : ℕ). n ≤ j) e (first-lowest 0 lines up j t .1);
-    }
-
-    back : Lowest k lines → numberOfVerdict (first lines) ≡ k
-    back l =
-        let low = first-lowest 0 lines up k (l .here) in
-        let high : k ≤ numberOfVerdict (first lines) = l .least (numberOfVerdict (first lines)) (given-holds lines (first lines) refl (low .0)) in
-        let most : numberOfVerdict (first lines) ≤ k = low .1 in
-        omega arith
-
--- nothing is given exactly if no number holds
-pub nothing-exactly : (lines : List Line) → ascends 0 lines ≡ true → (numberOfVerdict (first lines) ≡ 0) ↔ ((j : ℕ) → holds j lines ≡ false)
-unfolding numberOfVerdict
-nothing-exactly lines up = (there, back (first lines) refl)
-  where
-    there : numberOfVerdict (first lines) ≡ 0 → (j : ℕ) → holds j lines ≡ false
-    there e j = go (holds j lines) refl
-      where
-        go : (b : Bool) → holds j lines ≡ b → holds j lines ≡ false
-        go true t = absurd (let z : 0 < numberOfVerdict (first lines) = first-lowest 0 lines up j t .0 in let w : ⊥ = omega arith in w)
-        go false t = t
-
-    back : (v : Verdict) → first lines ≡ v → ((j : ℕ) → holds j lines ≡ false) → numberOfVerdict (first lines) ≡ 0
-    back Verdict.Clear e none = ap numberOfVerdict e
-    back (Verdict.Refused r) e none = absurd (true≢false (sym (first-holds lines r e) ∙ none (numberOf r)))
 
 -- ---- reading
 

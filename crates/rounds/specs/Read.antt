@@ -1,6 +1,6 @@
 -- Reading what was written gives the job and its first marking. The contents of a sheet lead to the bodies that it was laid out from; each body is read
 -- back; and what stands for writing (2, 4, 6) is what the reader asks for (1 to 6). Assumes that a block has 339 words, as every lent one has.
-use Prim.Native.Nat.{ℕ, _+_, _*_, _^_, _≤_, _<_}
+use Prim.Native.Nat.{ℕ, _*_, _^_, _≤_, _<_}
 use mathlib.Core.Path.{_≡_, sym, ap, ap₂, _∙_}
 use mathlib.Core.List.{List, [], _∷_, _++_}
 use mathlib.Core.Bool.{true}
@@ -28,8 +28,7 @@ use Rattle.layout.specs.Laws.{bodiesFrom, laid-fits, laid-bodies}
 use Rattle.bodies.specs.declared.Counts.{Counts}
 use Rattle.bodies.specs.Bodies.{countsBody, countsIn, markingBody, markingIn, rolesBody, setsIn, roleSetsFit}
 use Rattle.bodies.specs.Laws.{length-counts, length-marking, length-roles}
-use Rattle.reading.specs.Reading.{countsOf, firstOf, arrowsOn, blockRead, graphIn, layoutFits, countsRight, bodiesMatch, setsInside, arrowsRight, kindsRight}
-use Rattle.reading.specs.Reading.{readVerdict}
+use Rattle.reading.specs.Reading.{countsOf, firstOf, arrowsOn, blockRead, layoutFits, countsRight, bodiesMatch, setsInside, arrowsRight, kindsRight, readVerdict}
 use Rattle.reading.specs.Laws.{contents-inside}
 use Rattle.writing.specs.Writing.{arrowTable, bodiesOf, sheetBytes, contentLines}
 use Rattle.writing.specs.Laws.{Fitting, clear-fitting, graph-clear, marking-clear, part-kept}
@@ -105,12 +104,14 @@ module _ (block : List ℕ) (m : Marking) (whole : length block ≡ 339) (e : fi
   allows-back : setsIn 64 (bodyAt s 2) ≡ g .allows
   allows-back =
       ap (setsIn 64) (k .three)
-      ∙ roles-read (g .steps) 64 (g .allows) allows-rows (kept-roles (g .steps) (g .roles) (g .allows) (fitting .counted .roles-most) (fitting .allows-kept))
+      ∙ roles-read (g .steps) 64 (g .allows) allows-rows
+      (kept-roles (g .steps) (g .roles) (g .allows) (fitting .counted .roles-most) (fitting .allows-kept))
 
   holds-back : setsIn 16 (bodyAt s 3) ≡ g .holds
   holds-back =
       ap (setsIn 16) (k .four)
-      ∙ roles-read (g .people) 16 (g .holds) holds-rows (kept-roles (g .people) (g .roles) (g .holds) (fitting .counted .roles-most) (fitting .holds-kept))
+      ∙ roles-read (g .people) 16 (g .holds) holds-rows
+      (kept-roles (g .people) (g .roles) (g .holds) (fitting .counted .roles-most) (fitting .holds-kept))
 
   arrows-back : arrowsOn s ≡ arrowsOf (row (tableAt 3 256 block))
   arrows-back =
@@ -137,7 +138,8 @@ module _ (block : List ℕ) (m : Marking) (whole : length block ≡ 339) (e : fi
   layout-fits : layoutFits s ≡ true
   layout-fits =
       let arrows : List Arrow = arrowsOf (row (arrowTable g)) in
-      let five : sizeAt s 4 ≡ 3 * length (arrowsOf (row (arrowTable g))) = size-of 4 (omega arith) ∙ ap length (k .five) ∙ length-spelt arrows in
+      let five : sizeAt s 4 ≡ 3 * length (arrowsOf (row (arrowTable g))) = size-of 4 (omega arith) ∙ ap length (k .five)
+      ∙ length-spelt arrows in
       layout-exactly s .1
       (record {
         long = k .long;
@@ -157,18 +159,22 @@ module _ (block : List ℕ) (m : Marking) (whole : length block ≡ 339) (e : fi
   bodies-match : bodiesMatch s ≡ true
   bodies-match =
       let a : sizeAt s 2 ≡ 2 * countsOf s .steps =
-      size-of 2 (omega arith) ∙ ap length (k .three) ∙ length-roles (g .steps) (g .allows) ∙ ap (λ (c : Counts). 2 * c .steps) (sym counts-back) in
+      size-of 2 (omega arith) ∙ ap length (k .three) ∙ length-roles (g .steps) (g .allows)
+      ∙ ap (λ (c : Counts). 2 * c .steps) (sym counts-back) in
       let b : sizeAt s 3 ≡ 2 * countsOf s .people =
-      size-of 3 (omega arith) ∙ ap length (k .four) ∙ length-roles (g .people) (g .holds) ∙ ap (λ (c : Counts). 2 * c .people) (sym counts-back) in
+      size-of 3 (omega arith) ∙ ap length (k .four) ∙ length-roles (g .people) (g .holds)
+      ∙ ap (λ (c : Counts). 2 * c .people) (sym counts-back) in
       and-intro (eq-eqb (sizeAt s 2) (2 * countsOf s .steps) a) (eq-eqb (sizeAt s 3) (2 * countsOf s .people) b)
 
   sets-inside : setsInside s ≡ true
   sets-inside =
       let few : row block 2 ≤ 16 = fitting .counted .roles-most in
       let a : row block 0 ≤ length (tableAt 259 64 block) =
-      (let n : length (tableAt 259 64 block) ≡ 64 = allows-rows in let l : row block 0 ≤ 64 = fitting .counted .steps-most in omega arith) in
+      (let n : length (tableAt 259 64 block) ≡ 64 = allows-rows in let l : row block 0 ≤ 64 = fitting .counted .steps-most in
+      omega arith) in
       let b : row block 1 ≤ length (tableAt 323 16 block) =
-      (let n : length (tableAt 323 16 block) ≡ 16 = holds-rows in let l : row block 1 ≤ 16 = fitting .counted .people-most in omega arith) in
+      (let n : length (tableAt 323 16 block) ≡ 16 = holds-rows in let l : row block 1 ≤ 16 = fitting .counted .people-most in
+      omega arith) in
       and-intro
       (and-intro
       (ap₂ (λ (c : Counts) (w : Marking). markingFits (c .steps) w) counts-back first-back ∙ marking-clear g m e)

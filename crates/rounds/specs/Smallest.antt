@@ -45,5 +45,6 @@ unfolding smallest smallestBlock smallestMarking sheetBytes bytes contents joine
 smallest-written = refl
 
 pub smallest-read : Says smallest smallestBlock smallestMarking
-unfolding smallest smallestBlock smallestMarking readVerdict blockRead first layoutFits follows number roleSetsFit every arrowsIn allKnown ascending putAll put tabled
+unfolding smallest smallestBlock smallestMarking readVerdict blockRead first layoutFits follows number roleSetsFit every arrowsIn allKnown
+    ascending putAll put tabled
 smallest-read = record { clear = refl; job = refl; marking = refl }

@@ -31,7 +31,8 @@ layout-exactly s = (
   layout-placed s,
   λ p. and-intro
       (and-intro
-      (and-intro (and-intro (and-intro (le-leb 29 (length s) (p .long)) (le-leb (length s) 37077 (p .short))) (p .fits)) (eq-eqb (sizeAt s 0) 3 (p .one)))
+      (and-intro (and-intro (and-intro (le-leb 29 (length s) (p .long)) (le-leb (length s) 37077 (p .short))) (p .fits))
+      (eq-eqb (sizeAt s 0) 3 (p .one)))
       (eq-eqb (sizeAt s 1) 24 (p .two)))
       (eq-eqb (sizeAt s 4 % 3) 0 (p .five)),
 )
@@ -97,7 +98,8 @@ keeps-exactly count limit t = (there, back)
       where
         go : (i : ℕ) → i < length t → Dec (i < count) → within (cond (ltb i count) limit 0) (row t i) ≡ true
         go i h (yes l) =
-            ap (λ (b : Bool). within (cond b limit 0) (row t i)) (lt-ltb i count l) ∙ within-exactly limit (row t i) .1 (λ s e. all i s h e .1)
+            ap (λ (b : Bool). within (cond b limit 0) (row t i)) (lt-ltb i count l)
+            ∙ within-exactly limit (row t i) .1 (λ s e. all i s h e .1)
         go i h (no l) =
             ap (λ (b : Bool). within (cond b limit 0) (row t i)) (le-ltb i count (omega arith))
             ∙ within-exactly 0 (row t i) .1 (λ s e. absurd (let k : i < count = all i s h e .0 in let z : ⊥ = omega arith in z))

@@ -1,6 +1,6 @@
 -- Writing what was read gives the bytes, so that a job with its first marking has one sheet. A sheet whose contents fit is laid out from its bodies; each
 -- body is what is written of what it says; and nothing is against what was read of a sheet that nothing is against. Assumes that a sheet is made of bytes.
-use Prim.Native.Nat.{ℕ, _+_, _*_, _%_, _≤_, _<_}
+use Prim.Native.Nat.{ℕ, _*_, _%_, _≤_, _<_}
 use mathlib.Core.Path.{_≡_, sym, ap, ap₂, _∙_, subst}
 use mathlib.Core.List.{List, [], _∷_, _++_}
 use mathlib.Core.Bool.{true, _&&_}
@@ -127,7 +127,8 @@ module _ (s : List ℕ) (e : readVerdict s ≡ Verdict.Clear) where
         let three : rolesBody (countsOf s .steps) (graphIn s .allows) ≡ bodyAt s 2 =
         ap (rolesBody steps) (read-allows s) ∙ roles-written 64 steps (bodyAt s 2) (body-bytes 2) few steps-size in
         let four : rolesBody (countsOf s .people) (graphIn s .holds) ≡ bodyAt s 3 =
-        ap (rolesBody people) (read-holds s) ∙ roles-written 16 people (bodyAt s 3) (body-bytes 3) (right .opened .counted .people-most) people-size in
+        ap (rolesBody people) (read-holds s)
+        ∙ roles-written 16 people (bodyAt s 3) (body-bytes 3) (right .opened .counted .people-most) people-size in
         let five : arrowsBody (arrowTable (graphIn s)) ≡ bodyAt s 4 = arrows-again in
         λ j. one j ∷ two j ∷ three j ∷ four j ∷ five j ∷ []
 
@@ -142,8 +143,12 @@ module _ (s : List ℕ) (e : readVerdict s ≡ Verdict.Clear) where
         → (theWritten (graphIn s) (firstOf s) (length old) ≡ Written.Length (length s))
         × (roomAfter (graphIn s) (firstOf s) old ≡ s ++ drop (length s) old)
     write-again old h =
-        let after = clear-after (graphIn s) (firstOf s) old read-content (subst (λ (t : List ℕ). length t ≤ length old) (sym write-read) h) in
-        (after .0 ∙ ap (λ (t : List ℕ). Written.Length (length t)) write-read, after .1 ∙ ap (λ (t : List ℕ). t ++ drop (length t) old) write-read)
+        let after = clear-after (graphIn s) (firstOf s) old read-content
+        (subst (λ (t : List ℕ). length t ≤ length old) (sym write-read) h) in (
+          after .0 ∙ ap (λ (t : List ℕ). Written.Length (length t)) write-read,
+          after .1
+              ∙ ap (λ (t : List ℕ). t ++ drop (length t) old) write-read,
+        )
 
 -- ---- one sheet
 

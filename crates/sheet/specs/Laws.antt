@@ -57,7 +57,8 @@ unfolding ifClear
 not-refused Verdict.Clear e = ap (λ (b : Bool). Verdict.Clear) e
 not-refused (Verdict.Refused r) e = absurd (let z : _≡_ {A = ℕ} 0 1 = cc in let x : ⊥ = omega arith in x)
 
-pub read-clear : (s old new : List ℕ) (v : Verdict) (m : Marking) → v ≡ readVerdict s → v ≡ Verdict.Clear → m ≡ firstOf s → new ≡ blockRead s
+pub read-clear : (s old new : List ℕ) (v : Verdict) (m : Marking) → v ≡ readVerdict s → v ≡ Verdict.Clear → m ≡ firstOf s
+    → new ≡ blockRead s
     → Read s old new (record { verdict = v; first = m })
 read-clear s old new v m e c f b =
     let clear : readVerdict s ≡ Verdict.Clear = sym e ∙ c in

@@ -6,7 +6,7 @@ use mathlib.Core.Bool.{Bool, true, false, _&&_, cond}
 use native.Mathlib.Omega.{arith}
 use native.Mathlib.Nat.{lt-of-lt-of-le}
 use lib.ListN.{length, getD, drop, length-drop, take-append-drop}
-use lib.Seq.{sets-eq, getD-drop, drop-drop}
+use lib.Seq.{sets-eq, drop-drop}
 use lib.Pow.{pow-mono}
 use lib.Dec.{eqb, leb}
 use borrow.Author.Tests.{eq-eqb, le-leb, eqb-true, leb-true}
@@ -14,7 +14,7 @@ use Rattle.sets.specs.Truth.{and-left, and-right}
 use Rattle.moves.specs.First.{first}
 use Rattle.moves.specs.Move.{within1to}
 use Rattle.numbers.specs.Numbers.{number, bytes, Bytes, Spliced}
-use Rattle.numbers.specs.Laws.{length-bytes, number-bytes, bytes-number, spliced-then, spliced-length}
+use Rattle.numbers.specs.Laws.{drop-bytes, length-bytes, number-bytes, bytes-number, spliced-then, spliced-length}
 use Rattle.records.specs.declared.Record.{Record}
 use Rattle.records.specs.declared.Recorded.{Recorded}
 use Rattle.records.specs.Records.{setsOf, wellFormed}
@@ -145,9 +145,6 @@ bounded-64 n r h b =
 abbrev sets-at : ℕ → List ℕ → List ℕ
 sets-at zero s = []
 sets-at (suc k) s = number 8 s ∷ sets-at k (drop 8 s)
-
-drop-bytes : (k : ℕ) (s : List ℕ) → Bytes s → Bytes (drop k s)
-drop-bytes k s h i = subst (λ (x : ℕ). x < 256) (sym (getD-drop k s i 0)) (h (k + i))
 
 spelt-sets : (k : ℕ) (s : List ℕ) → Bytes s → length s ≡ 8 * k → setsSpelt (sets-at k s) ≡ s
 unfolding setsSpelt

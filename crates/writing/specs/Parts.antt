@@ -72,8 +72,10 @@ module _ (g : Graph) (m : Marking) where
       let d : length (rolesBody (g .people) (g .holds)) ≡ 2 * g .people = length-roles (g .people) (g .holds) in
       length-five (countsBody (g .steps) (g .people) (g .roles)) (markingBody m) (rolesBody (g .steps) (g .allows))
       (rolesBody (g .people) (g .holds)) (arrowsOut g)
-      ∙ (let z : length (countsBody (g .steps) (g .people) (g .roles)) + (length (markingBody m) + (length (rolesBody (g .steps) (g .allows))
-      + (length (rolesBody (g .people) (g .holds)) + length (arrowsOut g)))) ≡ 27 + 2 * g .steps + 2 * g .people + length (arrowsOut g) = omega arith in z)
+      ∙ (let z : length (countsBody (g .steps) (g .people) (g .roles)) + (length
+      (markingBody m) + (length (rolesBody (g .steps) (g .allows))
+      + (length (rolesBody (g .people) (g .holds)) + length (arrowsOut g)))) ≡ 27 + 2 * g .steps + 2 * g .people + length (arrowsOut g) =
+      omega arith in z)
 
   pub sheet-length : length (sheetBytes g m) ≡ lengthOut g
   sheet-length =

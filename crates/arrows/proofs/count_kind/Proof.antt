@@ -37,7 +37,8 @@ add-found c =
     let a = c .before .before .before .before .before .args in
     let l = c .before .before .before .loop in
     let most : countOf (l .a + 1) (row (a .rows .now)) ≤ 64 * (l .a + 1) = count-most (l .a + 1) (row (a .rows .now)) in
-    let more : countOf (l .a + 1) (row (a .rows .now)) ≡ countOf (l .a) (row (a .rows .now)) + length (members (row (a .rows .now) (l .a))) = count-more (l .a) (row (a .rows .now)) in
+    let more : countOf (l .a + 1) (row (a .rows .now)) ≡ countOf (l .a) (row (a .rows .now)) + length
+    (members (row (a .rows .now) (l .a))) = count-more (l .a) (row (a .rows .now)) in
     omega (arith, c .many .ensures)
 
 add-a : tie.Need-add-a Inv-loop μ-loop

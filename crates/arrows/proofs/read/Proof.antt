@@ -44,14 +44,22 @@ returns c =
     let a = c .before .before .before .before .before .before .before .before .args in
     let l = c .before .before .before .before .before .before .loop in
     let h : l .i + 2 < length (a .s .now) = omega arith in
-    reading-refused (a .n) (a .s .now) (a .table .now) (l .next) (l .i) (l .table) (l .inv .2) (c .before .before .before .before .before .before .before .before .pre .0) h (sym (c .before .fits2 .ensures) ∙ not-true _ (c .if1 .taken))
+    reading-refused (a .n) (a .s .now) (a .table .now) (l .next) (l .i) (l .table) (l .inv .2)
+    (c .before .before .before .before .before .before .before .before .pre .0) h
+    (sym (c .before .fits2 .ensures) ∙ not-true _ (c .if1 .taken))
 
 take-requires : tie.Need-take-requires Inv-loop μ-loop
 take-requires c κs =
     let a = c .before .before .before .before .before .before .before .before .before .args in
     let l = c .before .before .before .before .before .before .before .loop in
-    let pass : passes (a .n) (l .next) (arrowIn (a .s .now) (l .i)) ≡ true = sym (c .before .before .fits2 .ensures) ∙ not-false _ (c .before .if1 .left) in
-    (c .before .before .before .before .before .before .before .before .before .pre .0, c .before .before .before .before .before .before .before .before .before .pre .1, l .inv .1, c .before .before .before .before .before .before .loop-test .taken, and-left (known (a .n) (arrowIn (a .s .now) (l .i))) _ pass)
+    let pass : passes (a .n) (l .next) (arrowIn (a .s .now) (l .i)) ≡ true = sym (c .before .before .fits2 .ensures)
+    ∙ not-false _ (c .before .if1 .left) in (
+      c .before .before .before .before .before .before .before .before .before .pre .0,
+      c .before .before .before .before .before .before .before .before .before .pre .1,
+      l .inv .1,
+      c .before .before .before .before .before .before .loop-test .taken,
+      and-left (known (a .n) (arrowIn (a .s .now) (l .i))) _ pass,
+    )
 
 loop-less : tie.Need-loop-less Inv-loop μ-loop
 loop-less c =
@@ -65,16 +73,22 @@ loop-again c =
     let a = c .before .before .before .before .before .before .before .before .before .before .args in
     let l = c .before .before .before .before .before .before .before .before .loop in
     let h : l .i + 2 < length (a .s .now) = omega arith in
-    let pass : passes (a .n) (l .next) (arrowIn (a .s .now) (l .i)) ≡ true = sym (c .before .before .before .fits2 .ensures) ∙ not-false _ (c .before .before .if1 .left) in
+    let pass : passes (a .n) (l .next) (arrowIn (a .s .now) (l .i)) ≡ true = sym (c .before .before .before .fits2 .ensures)
+    ∙ not-false _ (c .before .before .if1 .left) in
     let p = c .take .ensures in
-    let more = goes-more (a .n) (a .s .now) (l .next) (l .i) (l .table) h pass in
-    (p .1, p .2, goes-then (a .n) (a .s .now) 0 0 (a .table .now) _ _ _ _ _ _ (l .inv .2) (goes-then (a .n) (a .s .now) _ _ _ _ _ _ _ _ _ more (p .3)))
+    let more = goes-more (a .n) (a .s .now) (l .next) (l .i) (l .table) h pass in (
+      p .1,
+      p .2,
+      goes-then (a .n) (a .s .now) 0 0 (a .table .now) _ _ _ _ _ _ (l .inv .2)
+          (goes-then (a .n) (a .s .now) _ _ _ _ _ _ _ _ _ more (p .3)),
+    )
 
 returns-2 : tie.Need-returns-2 Inv-loop μ-loop
 returns-2 c =
     let a = c .before .before .before .args in
     let l = c .before .loop in
-    reading-done (a .n) (a .s .now) (a .table .now) (l .next) (l .i) (l .table) (l .inv .2) (c .before .before .before .pre .0) (c .loop-test .left)
+    reading-done (a .n) (a .s .now) (a .table .now) (l .next) (l .i) (l .table) (l .inv .2) (c .before .before .before .pre .0)
+    (c .loop-test .left)
 
 pub read-spec : {M : Type 1} → statement M
 read-spec =

@@ -31,18 +31,21 @@ count-kind-requires c κs =
     let k = c .before .before .loop .k in
     let few : a .n ≤ 64 = start .pre .0 .few in
     let rows : length (fromRows (a .conditions .now) (a .table .now) k) ≡ 64 =
-    length-from (a .n) (a .conditions .now) (a .table .now) (start .pre .0) (start .pre .2) (start .pre .1) k (c .before .loop-test .taken) in
+    length-from (a .n) (a .conditions .now) (a .table .now) (start .pre .0) (start .pre .2) (start .pre .1) k
+    (c .before .loop-test .taken) in
     omega (arith, ap length (c .from-rows .ensures))
 
 -- what is found so far, with the kind at hand, is what there is up to the next
 found-more : (c : tie.After-count-kind Inv-loop μ-loop)
     → c .before .before .before .loop .found + c .count-kind .result
     ≡ countKinds (c .before .before .before .loop .k + 1) (c .before .before .before .before .before .before .args .n)
-    (c .before .before .before .before .before .before .args .conditions .now) (c .before .before .before .before .before .before .args .table .now)
+    (c .before .before .before .before .before .before .args .conditions .now)
+    (c .before .before .before .before .before .before .args .table .now)
 found-more c =
     let a = c .before .before .before .before .before .before .args in
     let l = c .before .before .before .loop in
-    ap₂ (λ (x y : ℕ). x + y) (l .inv .1) (c .count-kind .ensures ∙ ap (λ (t : List ℕ). countOf (a .n) (row t)) (c .before .from-rows .ensures))
+    ap₂ (λ (x y : ℕ). x + y) (l .inv .1)
+    (c .count-kind .ensures ∙ ap (λ (t : List ℕ). countOf (a .n) (row t)) (c .before .from-rows .ensures))
     ∙ sym (kinds-count (l .k) (a .n) (a .conditions .now) (a .table .now))
 
 add-found : tie.Need-add-found Inv-loop μ-loop

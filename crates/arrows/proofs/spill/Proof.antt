@@ -65,15 +65,19 @@ sub-rest c = search needs
 loop-less : tie.Need-loop-less Inv-loop μ-loop
 loop-less c =
     let l = c .before .before .before .loop in
-    let less : length (members (l .rest)) ≡ suc (length (members (later (l .rest)))) = members-less (l .rest) (l .inv .0) (c .before .before .loop-test .taken) in
+    let less : length (members (l .rest)) ≡ suc (length (members (later (l .rest)))) =
+    members-less (l .rest) (l .inv .0) (c .before .before .loop-test .taken) in
     omega arith
 
 loop-again : tie.Need-loop-again Inv-loop μ-loop
 loop-again c =
     let a = c .before .before .before .before .before .args in
     let l = c .before .before .before .loop in
-    simp (c .before .lowest .ensures, c .before .before .before .before .single .ensures)
-    (meet-lt 64 (l .rest) (l .rest - 1) (l .inv .0), l .inv .1 ∙ spill-more (l .table) (a .b) (l .rest) (l .inv .0) (c .before .before .loop-test .taken))
+    simp (c .before .lowest .ensures, c .before .before .before .before .single .ensures) (
+      meet-lt 64 (l .rest) (l .rest - 1) (l .inv .0),
+      l .inv .1
+          ∙ spill-more (l .table) (a .b) (l .rest) (l .inv .0) (c .before .before .loop-test .taken),
+    )
 
 returns : tie.Need-returns Inv-loop μ-loop
 returns c =

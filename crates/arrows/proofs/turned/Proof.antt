@@ -43,8 +43,11 @@ loop-less c = search needs
 loop-again : tie.Need-loop-again Inv-loop μ-loop
 loop-again c =
     let a = c .before .before .before .before .before .before .args in
-    let l = c .before .before .before .before .loop in
-    (search needs, c .spill .ensures ∙ ap (λ (t : List ℕ). putAll t (rowArrows 0 (l .b) (row (a .rows .now) (l .b)))) (l .inv .1) ∙ turn-more (replicate 64 0) (l .b) (row (a .rows .now)))
+    let l = c .before .before .before .before .loop in (
+      search needs,
+      c .spill .ensures ∙ ap (λ (t : List ℕ). putAll t (rowArrows 0 (l .b) (row (a .rows .now) (l .b)))) (l .inv .1)
+          ∙ turn-more (replicate 64 0) (l .b) (row (a .rows .now)),
+    )
 
 returns : tie.Need-returns Inv-loop μ-loop
 unfolding turned

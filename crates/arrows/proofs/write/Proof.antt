@@ -41,7 +41,8 @@ write-kind-requires c κs =
     let l = c .before .before .before .loop in
     let taken = c .before .before .loop-test .taken in
     let few : a .n ≤ 64 = start .pre .0 .0 .few in
-    let rows : length (fromRows cs t (l .k)) ≡ 64 = length-from (a .n) cs t (start .pre .0 .0) (start .pre .0 .2) (start .pre .0 .1) (l .k) taken in
+    let rows : length (fromRows cs t (l .k)) ≡ 64 =
+    length-from (a .n) cs t (start .pre .0 .0) (start .pre .0 .2) (start .pre .0 .1) (l .k) taken in
     let more : countKinds (l .k + 1) (a .n) cs t ≡ countKinds (l .k) (a .n) cs t + countOf (a .n) (row (fromRows cs t (l .k))) =
     kinds-count (l .k) (a .n) cs t in
     let most : countKinds (l .k + 1) (a .n) cs t ≤ countKinds 4 (a .n) cs t = kinds-mono (l .k) (a .n) cs t taken in

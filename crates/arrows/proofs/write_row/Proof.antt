@@ -15,7 +15,8 @@ use Rattle.arrows.proofs.write_row.Statement.{statement}
 use Rattle.arrows.proofs.write_row.Tie as tie
 
 abbrev Inv-loop : tie.InvT-loop
-Inv-loop k a x room₀ at rest₀ to₀ room rest to = (to + 3 * length (members rest) ≡ at + 3 * length (members x)) × (length room ≡ length room₀) × (rest < 2 ^ 64) × (sets room₀ at (spelt (rowArrows k a x)) ≡ sets room to (spelt (rowArrows k a rest)))
+Inv-loop k a x room₀ at rest₀ to₀ room rest to = (to + 3 * length (members rest) ≡ at + 3 * length (members x))
+    × (length room ≡ length room₀) × (rest < 2 ^ 64) × (sets room₀ at (spelt (rowArrows k a x)) ≡ sets room to (spelt (rowArrows k a rest)))
 
 abbrev μ-loop : tie.MeasureT-loop
 μ-loop k a x room₀ at rest₀ to₀ room rest to = length (members rest)
@@ -30,42 +31,48 @@ slice-write-room : tie.Need-slice-write-room Inv-loop μ-loop
 slice-write-room c =
     let a = c .before .before .before .before .args in
     let l = c .before .before .loop in
-    let less : length (members (l .rest)) ≡ suc (length (members (later (l .rest)))) = members-less (l .rest) (l .inv .2) (c .before .loop-test .taken) in
+    let less : length (members (l .rest)) ≡ suc (length (members (later (l .rest)))) =
+    members-less (l .rest) (l .inv .2) (c .before .loop-test .taken) in
     omega arith
 
 add-room : tie.Need-add-room Inv-loop μ-loop
 add-room c =
     let a = c .before .before .before .before .args in
     let l = c .before .before .loop in
-    let less : length (members (l .rest)) ≡ suc (length (members (later (l .rest)))) = members-less (l .rest) (l .inv .2) (c .before .loop-test .taken) in
+    let less : length (members (l .rest)) ≡ suc (length (members (later (l .rest)))) =
+    members-less (l .rest) (l .inv .2) (c .before .loop-test .taken) in
     omega arith
 
 slice-write-room-2 : tie.Need-slice-write-room-2 Inv-loop μ-loop
 slice-write-room-2 c =
     let a = c .before .before .before .before .args in
     let l = c .before .before .loop in
-    let less : length (members (l .rest)) ≡ suc (length (members (later (l .rest)))) = members-less (l .rest) (l .inv .2) (c .before .loop-test .taken) in
+    let less : length (members (l .rest)) ≡ suc (length (members (later (l .rest)))) =
+    members-less (l .rest) (l .inv .2) (c .before .loop-test .taken) in
     simp length-set (omega arith)
 
 add-room-2 : tie.Need-add-room-2 Inv-loop μ-loop
 add-room-2 c =
     let a = c .before .before .before .before .args in
     let l = c .before .before .loop in
-    let less : length (members (l .rest)) ≡ suc (length (members (later (l .rest)))) = members-less (l .rest) (l .inv .2) (c .before .loop-test .taken) in
+    let less : length (members (l .rest)) ≡ suc (length (members (later (l .rest)))) =
+    members-less (l .rest) (l .inv .2) (c .before .loop-test .taken) in
     omega arith
 
 slice-write-room-3 : tie.Need-slice-write-room-3 Inv-loop μ-loop
 slice-write-room-3 c =
     let a = c .before .before .before .before .args in
     let l = c .before .before .loop in
-    let less : length (members (l .rest)) ≡ suc (length (members (later (l .rest)))) = members-less (l .rest) (l .inv .2) (c .before .loop-test .taken) in
+    let less : length (members (l .rest)) ≡ suc (length (members (later (l .rest)))) =
+    members-less (l .rest) (l .inv .2) (c .before .loop-test .taken) in
     simp length-set (omega arith)
 
 add-to : tie.Need-add-to Inv-loop μ-loop
 add-to c =
     let a = c .before .before .before .before .args in
     let l = c .before .before .loop in
-    let less : length (members (l .rest)) ≡ suc (length (members (later (l .rest)))) = members-less (l .rest) (l .inv .2) (c .before .loop-test .taken) in
+    let less : length (members (l .rest)) ≡ suc (length (members (later (l .rest)))) =
+    members-less (l .rest) (l .inv .2) (c .before .loop-test .taken) in
     omega arith
 
 sub-rest : tie.Need-sub-rest Inv-loop μ-loop
@@ -74,16 +81,23 @@ sub-rest c = search needs
 loop-less : tie.Need-loop-less Inv-loop μ-loop
 loop-less c =
     let l = c .before .before .loop in
-    let less : length (members (l .rest)) ≡ suc (length (members (later (l .rest)))) = members-less (l .rest) (l .inv .2) (c .before .loop-test .taken) in
+    let less : length (members (l .rest)) ≡ suc (length (members (later (l .rest)))) =
+    members-less (l .rest) (l .inv .2) (c .before .loop-test .taken) in
     omega arith
 
 loop-again : tie.Need-loop-again Inv-loop μ-loop
 loop-again c =
     let a = c .before .before .before .before .args in
     let l = c .before .before .loop in
-    let less : length (members (l .rest)) ≡ suc (length (members (later (l .rest)))) = members-less (l .rest) (l .inv .2) (c .before .loop-test .taken) in
-    simp (c .lowest .ensures)
-    (omega arith, length-three (l .room) (l .to) (a .k) (l .to + 1) (a .a) (l .to + 2) (lowest 64 (l .rest)) ∙ l .inv .1, meet-lt 64 (l .rest) (l .rest - 1) (l .inv .2), l .inv .3 ∙ write-more (l .room) (l .to) (a .k) (a .a) (l .rest) (l .inv .2) (c .before .loop-test .taken))
+    let less : length (members (l .rest)) ≡ suc (length (members (later (l .rest)))) =
+    members-less (l .rest) (l .inv .2) (c .before .loop-test .taken) in
+    simp (c .lowest .ensures) (
+      omega arith,
+      length-three (l .room) (l .to) (a .k) (l .to + 1) (a .a) (l .to + 2) (lowest 64 (l .rest)) ∙ l .inv .1,
+      meet-lt 64 (l .rest) (l .rest - 1) (l .inv .2),
+      l .inv .3
+          ∙ write-more (l .room) (l .to) (a .k) (a .a) (l .rest) (l .inv .2) (c .before .loop-test .taken),
+    )
 
 same-length : tie.Need-same-length Inv-loop μ-loop
 same-length c = c .before .loop .inv .1

@@ -45,8 +45,12 @@ loop-less c = search needs
 loop-again : tie.Need-loop-again Inv-loop μ-loop
 loop-again c =
     let a = c .before .before .before .before .before .args in
-    let l = c .before .before .loop in
-    (search needs, simp length-set (l .inv .1), ap₂ (λ (t : List ℕ) (x : ℕ). set t (a .at + l .i) x) (l .inv .2) (c .role-set .ensures) ∙ fill-more (a .block .now) (a .at) (l .i) (setAt (a .body .now)))
+    let l = c .before .before .loop in (
+      search needs,
+      simp length-set (l .inv .1),
+      ap₂ (λ (t : List ℕ) (x : ℕ). set t (a .at + l .i) x) (l .inv .2) (c .role-set .ensures)
+          ∙ fill-more (a .block .now) (a .at) (l .i) (setAt (a .body .now)),
+    )
 
 add-result : tie.Need-add-result Inv-loop μ-loop
 add-result c = search needs
@@ -58,7 +62,8 @@ returns : tie.Need-returns Inv-loop μ-loop
 returns c =
     let a = c .before .before .before .before .args in
     let l = c .before .loop in
-    fill-done (a .block .now) (l .block) (a .at) (l .i) (a .count) (setAt (a .body .now)) (let e : l .i ≡ a .count = omega arith in e) (l .inv .2)
+    fill-done (a .block .now) (l .block) (a .at) (l .i) (a .count) (setAt (a .body .now)) (let e : l .i ≡ a .count = omega arith in e)
+    (l .inv .2)
 
 pub read-roles-spec : {M : Type 1} → statement M
 read-roles-spec =

@@ -33,8 +33,13 @@ loop-less c = search needs
 loop-again : tie.Need-loop-again Inv-loop μ-loop
 loop-again c =
     let a = c .before .before .before .before .args in
-    let l = c .before .before .loop in
-    (search needs, union-lt 16 (l .found) (c .role-set .result) (l .inv .1) (let k : c .role-set .result < 2 ^ 16 = omega (arith, c .role-set .ok) in k), ap₂ union (l .inv .2) (c .role-set .ensures) ∙ sym (gather-more (l .i) (setAt (a .body .now))))
+    let l = c .before .before .loop in (
+      search needs,
+      union-lt 16 (l .found) (c .role-set .result) (l .inv .1)
+          (let k : c .role-set .result < 2 ^ 16 = omega (arith, c .role-set .ok) in k),
+      ap₂ union (l .inv .2) (c .role-set .ensures)
+          ∙ sym (gather-more (l .i) (setAt (a .body .now))),
+    )
 
 cast-within : tie.Need-cast-within Inv-loop μ-loop
 cast-within c = search needs
@@ -46,7 +51,9 @@ returns : tie.Need-returns Inv-loop μ-loop
 returns c =
     let a = c .before .before .before .before .args in
     let l = c .before .before .loop in
-    c .within .ensures ∙ ap (within (a .roles)) (l .inv .2 ∙ ap (λ (k : ℕ). gather k (setAt (a .body .now))) (let e : l .i ≡ length (a .body .now) / 2 = omega arith in e)) ∙ roles-together (a .roles) (a .body .now)
+    c .within .ensures ∙ ap (within (a .roles))
+    (l .inv .2 ∙ ap (λ (k : ℕ). gather k (setAt (a .body .now))) (let e : l .i ≡ length (a .body .now) / 2 = omega arith in e))
+    ∙ roles-together (a .roles) (a .body .now)
 
 pub role-sets-fit-spec : {M : Type 1} → statement M
 role-sets-fit-spec =

@@ -23,16 +23,26 @@ put-requires-3 c κs =
     let a = c .before .before .before .before .before .before .before .before .before .before .args in
     let one : length (bytes 1 (a .steps)) ≡ 1 = length-bytes 1 (a .steps) in
     let two : length (bytes 1 (a .people)) ≡ 1 = length-bytes 1 (a .people) in
-    omega (arith, c .before .before .before .before .before .before .before .put .ensures .next, c .before .before .before .put2 .ensures .next, spliced-length _ _ _ _ _ (c .before .before .before .before .before .before .before .put .ensures), spliced-length _ _ _ _ _ (c .before .before .before .put2 .ensures))
+    omega (
+      arith,
+      c .before .before .before .before .before .before .before .put .ensures .next,
+      c .before .before .before .put2 .ensures .next,
+      spliced-length _ _ _ _ _ (c .before .before .before .before .before .before .before .put .ensures),
+      spliced-length _ _ _ _ _ (c .before .before .before .put2 .ensures),
+    )
 
 same-length : tie.Need-same-length
-same-length c = spliced-length _ _ _ _ _ (c .before .before .put3 .ensures) ∙ spliced-length _ _ _ _ _ (c .before .before .before .before .before .before .put2 .ensures) ∙ spliced-length _ _ _ _ _ (c .before .before .before .before .before .before .before .before .before .before .put .ensures)
+same-length c = spliced-length _ _ _ _ _ (c .before .before .put3 .ensures)
+    ∙ spliced-length _ _ _ _ _ (c .before .before .before .before .before .before .put2 .ensures)
+    ∙ spliced-length _ _ _ _ _ (c .before .before .before .before .before .before .before .before .before .before .put .ensures)
 
 returns : tie.Need-returns
 returns c =
     let a = c .before .before .before .before .before .before .before .before .before .before .before .before .before .args in
-    spliced-then (bytes 1 (a .steps)) (bytes 1 (a .people) ++ bytes 1 (a .roles)) (a .at) _ _ _ _ _ (c .before .before .before .before .before .before .before .before .before .before .put .ensures)
-    (spliced-then (bytes 1 (a .people)) (bytes 1 (a .roles)) _ _ _ _ _ _ (c .before .before .before .before .before .before .put2 .ensures) (c .before .before .put3 .ensures))
+    spliced-then (bytes 1 (a .steps)) (bytes 1 (a .people) ++ bytes 1 (a .roles)) (a .at) _ _ _ _ _
+    (c .before .before .before .before .before .before .before .before .before .before .put .ensures)
+    (spliced-then (bytes 1 (a .people)) (bytes 1 (a .roles)) _ _ _ _ _ _ (c .before .before .before .before .before .before .put2 .ensures)
+    (c .before .before .put3 .ensures))
 
 pub write-counts-spec : {M : Type 1} → statement M
 write-counts-spec =

@@ -45,8 +45,11 @@ loop-less c = search needs
 loop-again : tie.Need-loop-again Inv-loop μ-loop
 loop-again c =
     let a = c .before .before .before .before .before .before .before .before .before .args in
-    let l = c .before .before .before .before .before .before .loop in
-    (search needs, spliced-length _ _ _ _ _ (c .before .before .put .ensures) ∙ l .inv .1, roles-more (l .i) (a .at) (a .table .now) (a .room .now) (l .room) _ (l .to) _ (l .inv .2) (c .before .before .put .ensures))
+    let l = c .before .before .before .before .before .before .loop in (
+      search needs,
+      spliced-length _ _ _ _ _ (c .before .before .put .ensures) ∙ l .inv .1,
+      roles-more (l .i) (a .at) (a .table .now) (a .room .now) (l .room) _ (l .to) _ (l .inv .2) (c .before .before .put .ensures),
+    )
 
 same-length : tie.Need-same-length Inv-loop μ-loop
 same-length c = c .before .loop .inv .1
@@ -55,7 +58,8 @@ returns : tie.Need-returns Inv-loop μ-loop
 returns c =
     let a = c .before .before .before .before .args in
     let l = c .before .loop in
-    subst (λ (k : ℕ). Spliced (rolesBody k (a .table .now)) (a .at) (a .room .now) (l .room) (l .to)) (let e : l .i ≡ a .count = omega arith in e) (l .inv .2)
+    subst (λ (k : ℕ). Spliced (rolesBody k (a .table .now)) (a .at) (a .room .now) (l .room) (l .to))
+    (let e : l .i ≡ a .count = omega arith in e) (l .inv .2)
 
 pub write-roles-spec : {M : Type 1} → statement M
 write-roles-spec =

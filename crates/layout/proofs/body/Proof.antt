@@ -26,7 +26,9 @@ part-result-end c = search needs
 returns : tie.Need-returns
 returns c =
     let a = c .before .before .before .before .args in
-    ap₂ (λ (n o : ℕ). take n (drop o (a .s .now))) (let z : c .before .end .result - c .before .before .offset .result ≡ sizeAt (a .s .now) (a .i) = omega (arith, c .before .end .ensures, c .before .before .offset .ensures .0) in z) (c .before .before .offset .ensures .0)
+    ap₂ (λ (n o : ℕ). take n (drop o (a .s .now)))
+    (let z : c .before .end .result - c .before .before .offset .result ≡ sizeAt (a .s .now) (a .i) =
+    omega (arith, c .before .end .ensures, c .before .before .offset .ensures .0) in z) (c .before .before .offset .ensures .0)
 
 pub body-spec : {M : Type 1} → statement M
 body-spec =

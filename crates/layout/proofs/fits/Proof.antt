@@ -12,7 +12,8 @@ use Rattle.layout.proofs.fits.Statement.{statement}
 use Rattle.layout.proofs.fits.Tie as tie
 
 abbrev Inv-loop : tie.InvT-loop
-Inv-loop s count at₀ i₀ at i = (i ≤ count) × (at ≤ 1 + 5 * count + 65536 * i) × (follows count 0 (start count) s ≡ follows (count - i) i at s)
+Inv-loop s count at₀ i₀ at i = (i ≤ count) × (at ≤ 1 + 5 * count + 65536 * i)
+    × (follows count 0 (start count) s ≡ follows (count - i) i at s)
 
 abbrev μ-loop : tie.MeasureT-loop
 μ-loop s count at₀ i₀ at i = count - i
@@ -26,7 +27,8 @@ cast-if1 c = omega (arith, c .shared-slice-known2 .given 0)
 returns : tie.Need-returns Inv-loop μ-loop
 returns c =
     let a = c .before .before .before .args in
-    sym (ap (λ (b : Bool). b && follows (a .count) 0 (start (a .count)) (a .s .now)) (ne-eqb (getD (a .s .now) 0 0) (a .count) (c .if1 .taken)))
+    sym (ap (λ (b : Bool). b && follows (a .count) 0 (start (a .count)) (a .s .now))
+    (ne-eqb (getD (a .s .now) 0 0) (a .count) (c .if1 .taken)))
 
 mul-at : tie.Need-mul-at Inv-loop μ-loop
 mul-at c = search needs
@@ -36,8 +38,11 @@ add-at c = search needs
 
 loop-holds : tie.Need-loop-holds Inv-loop μ-loop
 loop-holds c =
-    let a = c .before .before .before .args in
-    (search needs, search needs, ap (λ (k : ℕ). follows k 0 (start (a .count)) (a .s .now)) (let z : a .count ≡ a .count - 0 = omega arith in z))
+    let a = c .before .before .before .args in (
+      search needs,
+      search needs,
+      ap (λ (k : ℕ). follows k 0 (start (a .count)) (a .s .now)) (let z : a .count ≡ a .count - 0 = omega arith in z),
+    )
 
 line-fits-requires : tie.Need-line-fits-requires Inv-loop μ-loop
 line-fits-requires c κs = search needs
@@ -48,7 +53,9 @@ returns-2 c =
     let l = c .before .before .before .loop in
     let byte : getD (a .s .now) 0 0 ≡ a .count = c .before .before .before .before .if1 .left in
     sym (ap₂ (λ (b f : Bool). b && f) (eq-eqb (getD (a .s .now) 0 0) (a .count) byte)
-    (l .inv .2 ∙ follows-more (a .count) (l .i) (l .at) (a .s .now) (c .before .before .loop-test .taken) ∙ ap (λ (b : Bool). b && follows (a .count - (l .i + 1)) (l .i + 1) (l .at + sizeAt (a .s .now) (l .i)) (a .s .now)) (sym (c .before .line-fits .ensures) ∙ not-true _ (c .if2 .taken))))
+    (l .inv .2 ∙ follows-more (a .count) (l .i) (l .at) (a .s .now) (c .before .before .loop-test .taken)
+    ∙ ap (λ (b : Bool). b && follows (a .count - (l .i + 1)) (l .i + 1) (l .at + sizeAt (a .s .now) (l .i)) (a .s .now))
+    (sym (c .before .line-fits .ensures) ∙ not-true _ (c .if2 .taken))))
 
 size-requires : tie.Need-size-requires Inv-loop μ-loop
 size-requires c κs = search needs
@@ -71,7 +78,9 @@ loop-again c =
     let l = c .before .before .before .before .loop in (
       search needs,
       omega (arith, c .size .ensures .1),
-      l .inv .2 ∙ follows-more (a .count) (l .i) (l .at) (a .s .now) (c .before .before .before .loop-test .taken) ∙ ap₂ (λ (b : Bool) (n : ℕ). b && follows (a .count - (l .i + 1)) (l .i + 1) (l .at + n) (a .s .now)) (sym (c .before .before .line-fits .ensures) ∙ not-false _ (c .before .if2 .left)) (sym (c .size .ensures .0)),
+      l .inv .2 ∙ follows-more (a .count) (l .i) (l .at) (a .s .now) (c .before .before .before .loop-test .taken)
+          ∙ ap₂ (λ (b : Bool) (n : ℕ). b && follows (a .count - (l .i + 1)) (l .i + 1) (l .at + n) (a .s .now))
+          (sym (c .before .before .line-fits .ensures) ∙ not-false _ (c .before .if2 .left)) (sym (c .size .ensures .0)),
     )
 
 returns-3 : tie.Need-returns-3 Inv-loop μ-loop
@@ -79,7 +88,8 @@ returns-3 c =
     let a = c .before .before .before .before .before .args in
     let l = c .before .loop in
     let byte : getD (a .s .now) 0 0 ≡ a .count = c .before .before .if1 .left in
-    sym (ap₂ (λ (b f : Bool). b && f) (eq-eqb (getD (a .s .now) 0 0) (a .count) byte) (l .inv .2 ∙ follows-done (a .count) (l .i) (l .at) (a .s .now) (c .loop-test .left)))
+    sym (ap₂ (λ (b f : Bool). b && f) (eq-eqb (getD (a .s .now) 0 0) (a .count) byte)
+    (l .inv .2 ∙ follows-done (a .count) (l .i) (l .at) (a .s .now) (c .loop-test .left)))
 
 pub fits-spec : {M : Type 1} → statement M
 fits-spec =

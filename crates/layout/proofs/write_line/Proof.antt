@@ -23,16 +23,26 @@ put-requires-3 c κs =
     let a = c .before .before .before .before .before .before .before .before .before .before .args in
     let one : length (bytes 1 (a .kind)) ≡ 1 = length-bytes 1 (a .kind) in
     let two : length (bytes 2 (a .offset)) ≡ 2 = length-bytes 2 (a .offset) in
-    omega (arith, c .before .before .before .before .before .before .before .put .ensures .next, c .before .before .before .put2 .ensures .next, spliced-length _ _ _ _ _ (c .before .before .before .before .before .before .before .put .ensures), spliced-length _ _ _ _ _ (c .before .before .before .put2 .ensures))
+    omega (
+      arith,
+      c .before .before .before .before .before .before .before .put .ensures .next,
+      c .before .before .before .put2 .ensures .next,
+      spliced-length _ _ _ _ _ (c .before .before .before .before .before .before .before .put .ensures),
+      spliced-length _ _ _ _ _ (c .before .before .before .put2 .ensures),
+    )
 
 same-length : tie.Need-same-length
-same-length c = spliced-length _ _ _ _ _ (c .before .before .put3 .ensures) ∙ spliced-length _ _ _ _ _ (c .before .before .before .before .before .before .put2 .ensures) ∙ spliced-length _ _ _ _ _ (c .before .before .before .before .before .before .before .before .before .before .put .ensures)
+same-length c = spliced-length _ _ _ _ _ (c .before .before .put3 .ensures)
+    ∙ spliced-length _ _ _ _ _ (c .before .before .before .before .before .before .put2 .ensures)
+    ∙ spliced-length _ _ _ _ _ (c .before .before .before .before .before .before .before .before .before .before .put .ensures)
 
 returns : tie.Need-returns
 returns c =
     let a = c .before .before .before .before .before .before .before .before .before .before .before .before .before .args in
-    spliced-then (bytes 1 (a .kind)) (bytes 2 (a .offset) ++ bytes 2 (a .size)) (a .at) _ _ _ _ _ (c .before .before .before .before .before .before .before .before .before .before .put .ensures)
-    (spliced-then (bytes 2 (a .offset)) (bytes 2 (a .size)) _ _ _ _ _ _ (c .before .before .before .before .before .before .put2 .ensures) (c .before .before .put3 .ensures))
+    spliced-then (bytes 1 (a .kind)) (bytes 2 (a .offset) ++ bytes 2 (a .size)) (a .at) _ _ _ _ _
+    (c .before .before .before .before .before .before .before .before .before .before .put .ensures)
+    (spliced-then (bytes 2 (a .offset)) (bytes 2 (a .size)) _ _ _ _ _ _ (c .before .before .before .before .before .before .put2 .ensures)
+    (c .before .before .put3 .ensures))
 
 pub write-line-spec : {M : Type 1} → statement M
 write-line-spec =

@@ -8,7 +8,8 @@ use Rattle.layout.proofs.write_lines.Statement.{statement}
 use Rattle.layout.proofs.write_lines.Tie as tie
 
 abbrev Inv-loop : tie.InvT-loop
-Inv-loop sizes room₀ at to₀ offset₀ i₀ room to offset i = (i ≤ length sizes) × (offset ≤ 1 + 5 * length sizes + 65536 * i) × Writing sizes at room₀ room to offset i
+Inv-loop sizes room₀ at to₀ offset₀ i₀ room to offset i = (i ≤ length sizes) × (offset ≤ 1 + 5 * length sizes + 65536 * i)
+    × Writing sizes at room₀ room to offset i
 
 abbrev μ-loop : tie.MeasureT-loop
 μ-loop sizes room₀ at to₀ offset₀ i₀ room to offset i = length sizes - i
@@ -60,8 +61,12 @@ loop-less c = search needs
 loop-again : tie.Need-loop-again Inv-loop μ-loop
 loop-again c =
     let a = c .before .before .before .before .before .before .before .before .before .before .args in
-    let l = c .before .before .before .before .before .before .before .loop in
-    (search needs, omega (arith, c .before .before .before .before .before .before .before .before .before .before .pre .2 (l .i)), writing-more (a .sizes .now) (a .at) (a .room .now) (l .room) _ (l .to) (l .offset) (l .i) _ (l .inv .2) (c .before .before .before .before .before .before .loop-test .taken) (c .before .before .before .write-line .ensures))
+    let l = c .before .before .before .before .before .before .before .loop in (
+      search needs,
+      omega (arith, c .before .before .before .before .before .before .before .before .before .before .pre .2 (l .i)),
+      writing-more (a .sizes .now) (a .at) (a .room .now) (l .room) _ (l .to) (l .offset) (l .i) _ (l .inv .2)
+          (c .before .before .before .before .before .before .loop-test .taken) (c .before .before .before .write-line .ensures),
+    )
 
 same-length : tie.Need-same-length Inv-loop μ-loop
 same-length c = c .before .loop .inv .2 .same

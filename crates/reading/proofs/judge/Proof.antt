@@ -117,7 +117,8 @@ arrows-right-requires c κs =
 returns-5 : tie.Need-returns-5
 returns-5 c =
     let tested = c .before in
-    refused _ _ Arrows (left4 (tested .before .before) ∙ failed Arrows _ _ (sym (tested .arrows-right .ensures .0) ∙ not-true _ (c .if5 .taken)))
+    refused _ _ Arrows (left4 (tested .before .before)
+    ∙ failed Arrows _ _ (sym (tested .arrows-right .ensures .0) ∙ not-true _ (c .if5 .taken)))
 
 abbrev sheet5 : tie.Else5 → List ℕ
 sheet5 c = sheet4 (c .before .before .before)

@@ -48,7 +48,8 @@ returns-2 c =
     let tested = c .before .before .before .before in
     let judged = tested .before .before in
     let old = judged .before .before .before .args .g .now in
-    let r = read-clear (sheet tested) old _ _ _ (judged .judge .ensures .right) (clear tested) (c .first-marking .ensures) (c .before .fill .ensures) in
+    let r = read-clear (sheet tested) old _ _ _ (judged .judge .ensures .right) (clear tested) (c .first-marking .ensures)
+    (c .before .fill .ensures) in
     (r .answer, r .block)
 
 pub read-spec : {M : Type 1} → statement M

@@ -62,7 +62,8 @@ start1 c = c .before .before .before .before .before
 
 -- the front that is written is that of the sheet
 front-same : (c : tie.Start)
-    → front (sizesOf (graph c .steps) (graph c .people) (c .args .size - (53 + 2 * graph c .steps + 2 * graph c .people))) ≡ frontOut (graph c)
+    → front (sizesOf (graph c .steps) (graph c .people) (c .args .size - (53 + 2 * graph c .steps + 2 * graph c .people))) ≡ frontOut
+    (graph c)
 front-same c = ap (λ (k : ℕ). front (sizesOf (graph c .steps) (graph c .people) k)) (arrows-left c)
 
 write-bodies-requires : tie.Need-write-bodies-requires
@@ -73,8 +74,11 @@ write-bodies-requires c κs =
     let whole : length (frontOut (graph start) ++ bodiesOut (graph start) m) ≡ lengthOut (graph start) =
     ap length (sym (sheet-parts (graph start) m)) ∙ sheet-length (graph start) m in
     let fits : 0 + length (frontOut (graph start) ++ bodiesOut (graph start) m) ≤ length (start .args .room .now) =
-    omega (arith, start .pre .1) in
-    (start .pre .0, room-then (frontOut (graph start)) (bodiesOut (graph start) m) _ _ _ _ (rw (front-same start) at (first .write-front .ensures)) fits)
+    omega (arith, start .pre .1) in (
+      start .pre .0,
+      room-then (frontOut (graph start)) (bodiesOut (graph start) m) _ _ _ _
+          (rw (front-same start) at (first .write-front .ensures)) fits,
+    )
 
 same-length : tie.Need-same-length
 same-length c = search needs

@@ -112,7 +112,12 @@ write-requires c κs =
     let left = room-then (allows start) (holds start ++ arrows start) _ _ _ _ (first .write-roles .ensures) (start .pre .1) in
     let rest = room-then (holds start) (arrows start) _ _ _ _ (second .write-roles2 .ensures) left in
     let same = ap (λ (t : List ℕ). length (arrowsBody t)) (kinds-joined block) in (
-      (part-kept block (start .pre .0 .0), rows-at 3 256 block (omega arith), start .pre .0 .1 ∙ ap (turnedIn (row block 0)) (kinds-joined block)),
+      (
+        part-kept block (start .pre .0 .0),
+        rows-at 3 256 block (omega arith),
+        start .pre .0 .1
+            ∙ ap (turnedIn (row block 0)) (kinds-joined block),
+      ),
       omega (arith, rest, same),
     )
 

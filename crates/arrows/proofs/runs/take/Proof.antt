@@ -24,13 +24,17 @@ shared-slice-read-j c = search needs
 cast-j : tie.Need-cast-j
 cast-j c =
     let a = c .before .before .before .before .before .args in
-    let r : Ranged (arrowIn (a .s .now) (a .at)) = known-ranged (a .n) (arrowIn (a .s .now) (a .at)) (c .before .before .before .before .before .pre .0) (c .before .before .before .before .before .pre .4) in
+    let r : Ranged (arrowIn (a .s .now) (a .at)) =
+    known-ranged (a .n) (arrowIn (a .s .now) (a .at)) (c .before .before .before .before .before .pre .0)
+    (c .before .before .before .before .before .pre .4) in
     omega arith
 
 mul-j : tie.Need-mul-j
 mul-j c =
     let a = c .before .before .before .before .before .args in
-    let r : Ranged (arrowIn (a .s .now) (a .at)) = known-ranged (a .n) (arrowIn (a .s .now) (a .at)) (c .before .before .before .before .before .pre .0) (c .before .before .before .before .before .pre .4) in
+    let r : Ranged (arrowIn (a .s .now) (a .at)) =
+    known-ranged (a .n) (arrowIn (a .s .now) (a .at)) (c .before .before .before .before .before .pre .0)
+    (c .before .before .before .before .before .pre .4) in
     omega arith
 
 add-j : tie.Need-add-j
@@ -42,37 +46,49 @@ shared-slice-read-j-2 c = search needs
 cast-j-2 : tie.Need-cast-j-2
 cast-j-2 c =
     let a = c .before .before .before .before .before .before .args in
-    let r : Ranged (arrowIn (a .s .now) (a .at)) = known-ranged (a .n) (arrowIn (a .s .now) (a .at)) (c .before .before .before .before .before .before .pre .0) (c .before .before .before .before .before .before .pre .4) in
+    let r : Ranged (arrowIn (a .s .now) (a .at)) =
+    known-ranged (a .n) (arrowIn (a .s .now) (a .at)) (c .before .before .before .before .before .before .pre .0)
+    (c .before .before .before .before .before .before .pre .4) in
     omega arith
 
 add-j-2 : tie.Need-add-j-2
 add-j-2 c =
     let a = c .before .before .before .before .before .before .args in
-    let r : Ranged (arrowIn (a .s .now) (a .at)) = known-ranged (a .n) (arrowIn (a .s .now) (a .at)) (c .before .before .before .before .before .before .pre .0) (c .before .before .before .before .before .before .pre .4) in
+    let r : Ranged (arrowIn (a .s .now) (a .at)) =
+    known-ranged (a .n) (arrowIn (a .s .now) (a .at)) (c .before .before .before .before .before .before .pre .0)
+    (c .before .before .before .before .before .before .pre .4) in
     omega arith
 
 mul-table : tie.Need-mul-table
 mul-table c =
     let a = c .before .before .before .before .before .before .args in
-    let r : Ranged (arrowIn (a .s .now) (a .at)) = known-ranged (a .n) (arrowIn (a .s .now) (a .at)) (c .before .before .before .before .before .before .pre .0) (c .before .before .before .before .before .before .pre .4) in
+    let r : Ranged (arrowIn (a .s .now) (a .at)) =
+    known-ranged (a .n) (arrowIn (a .s .now) (a .at)) (c .before .before .before .before .before .before .pre .0)
+    (c .before .before .before .before .before .before .pre .4) in
     omega arith
 
 element-copy-out-table : tie.Need-element-copy-out-table
 element-copy-out-table c =
     let a = c .before .before .before .before .before .before .args in
-    let r : Ranged (arrowIn (a .s .now) (a .at)) = known-ranged (a .n) (arrowIn (a .s .now) (a .at)) (c .before .before .before .before .before .before .pre .0) (c .before .before .before .before .before .before .pre .4) in
+    let r : Ranged (arrowIn (a .s .now) (a .at)) =
+    known-ranged (a .n) (arrowIn (a .s .now) (a .at)) (c .before .before .before .before .before .before .pre .0)
+    (c .before .before .before .before .before .before .pre .4) in
     omega arith
 
 mul-table-2 : tie.Need-mul-table-2
 mul-table-2 c =
     let a = c .before .before .before .before .before .before .before .before .args in
-    let r : Ranged (arrowIn (a .s .now) (a .at)) = known-ranged (a .n) (arrowIn (a .s .now) (a .at)) (c .before .before .before .before .before .before .before .before .pre .0) (c .before .before .before .before .before .before .before .before .pre .4) in
+    let r : Ranged (arrowIn (a .s .now) (a .at)) =
+    known-ranged (a .n) (arrowIn (a .s .now) (a .at)) (c .before .before .before .before .before .before .before .before .pre .0)
+    (c .before .before .before .before .before .before .before .before .pre .4) in
     omega arith
 
 element-write-table : tie.Need-element-write-table
 element-write-table c =
     let a = c .before .before .before .before .before .before .before .before .args in
-    let r : Ranged (arrowIn (a .s .now) (a .at)) = known-ranged (a .n) (arrowIn (a .s .now) (a .at)) (c .before .before .before .before .before .before .before .before .pre .0) (c .before .before .before .before .before .before .before .before .pre .4) in
+    let r : Ranged (arrowIn (a .s .now) (a .at)) =
+    known-ranged (a .n) (arrowIn (a .s .now) (a .at)) (c .before .before .before .before .before .before .before .before .pre .0)
+    (c .before .before .before .before .before .before .before .before .pre .4) in
     omega arith
 
 returns-2 : tie.Need-returns-2
