@@ -3,7 +3,7 @@ use Prim.Native.Nat.{ℕ, zero, suc, _+_, _-_, _^_, _≤_, _<_}
 use mathlib.Core.Path.{_≡_, refl, sym, ap, ap₂, _∙_, subst}
 use mathlib.Core.List.{List, [], _∷_, _++_}
 use mathlib.Core.Bool.{Bool, true, false, _&&_, cond, true≢false}
-use native.Mathlib.Nat.{lt-of-lt-of-le, lt-of-le-of-lt, zero-add, suc-add}
+use native.Mathlib.Nat.{le-refl, lt-of-lt-of-le, lt-of-le-of-lt, zero-add, suc-add}
 use native.Mathlib.Omega.{arith}
 use native.Mathlib.Decide.{decLt}
 use lib.ListN.{length, take, drop, length-drop, List·getD-eq-default}
@@ -71,19 +71,18 @@ gather-front (suc k) count rows h =
 kept : ℕ → ℕ → ℕ → (ℕ → ℕ) → Bool
 kept room count limit f = every room (λ i. within (cond (ltb i count) limit 0) (f i))
 
--- what is gathered below and beyond the count tells whether the rows are kept
-gathered-kept : (room count limit : ℕ) (f : ℕ → ℕ) → count ≤ room
-    → (within limit (gather count f) && empty (gather room (beyond count f))) ≡ kept room count limit f
+-- what is gathered beyond the count, and of the rows up to some place at or beyond it, tells whether the rows are kept
+gathered-kept : (room far count limit : ℕ) (f : ℕ → ℕ) → count ≤ far → far ≤ room
+    → (within limit (gather far f) && empty (gather room (beyond count f))) ≡ kept room count limit f
 unfolding kept
-gathered-kept room count limit f h =
-    ap₂ _&&_ (within-gather limit count f) (empty-gather room (beyond count f))
-    ∙ same-truth (every count low && every room high) (every room both)
+gathered-kept room far count limit f h t =
+    ap₂ _&&_ (within-gather limit far f) (empty-gather room (beyond count f))
+    ∙ same-truth (every far low && every room high) (every room both)
     (λ e. every-of room both
-    (λ i l. join i l (decLt i count) (every-at count low (and-left (every count low) (every room high) e) i)
-    (every-at room high (and-right (every count low) (every room high) e) i l)))
+    (λ i l. join i l (decLt i count) (λ k. every-at far low (and-left (every far low) (every room high) e) i (lt-of-lt-of-le k h))
+    (every-at room high (and-right (every far low) (every room high) e) i l)))
     (λ e. and-intro
-    (every-of count low (λ i l.
-    subst (λ (b : Bool). within (cond b limit 0) (f i) ≡ true) (lt-ltb i count l) (every-at room both e i (lt-of-lt-of-le l h))))
+    (every-of far low (λ i l. inside i (decLt i count) (every-at room both e i (lt-of-lt-of-le l t))))
     (every-of room high (λ i l. part i (decLt i count) (every-at room both e i l))))
   where
     low : ℕ → Bool
@@ -106,6 +105,13 @@ gathered-kept room count limit f h =
         subst (λ (b : Bool). within (cond b limit 0) (f i) ≡ true) (sym off)
         (none (f i) (subst (λ (b : Bool). empty (cond b 0 (f i)) ≡ true) off e))
 
+    inside : (i : ℕ) → Dec (i < count) → within (cond (ltb i count) limit 0) (f i) ≡ true → within limit (f i) ≡ true
+    inside i (yes k) e = subst (λ (b : Bool). within (cond b limit 0) (f i) ≡ true) (lt-ltb i count k) e
+    inside i (no k) e =
+        let off : ltb i count ≡ false = le-ltb i count (let z : count ≤ i = omega arith in z) in
+        let small : f i < 1 = ltb-true (f i) 1 (subst (λ (b : Bool). within (cond b limit 0) (f i) ≡ true) off e) in
+        lt-ltb (f i) (2 ^ limit) (lt-of-lt-of-le small (pow-pos limit))
+
     part : (i : ℕ) → Dec (i < count) → within (cond (ltb i count) limit 0) (f i) ≡ true → empty (cond (ltb i count) 0 (f i)) ≡ true
     part i (yes k) e = subst (λ (b : Bool). empty (cond b 0 (f i)) ≡ true) (sym (lt-ltb i count k)) refl
     part i (no k) e =
@@ -125,13 +131,14 @@ kept-union room count limit f g =
     bound : ℕ → ℕ
     bound i = cond (ltb i count) limit 0
 
--- one table, by its own length
+-- one table, whole
 pub table-keeps : (count limit : ℕ) (table : List ℕ) (a x : ℕ) → count ≤ length table
-    → a ≡ gather count (row table) → x ≡ gather (length table) (beyond count (row table))
+    → a ≡ gather (length table) (row table) → x ≡ gather (length table) (beyond count (row table))
     → (within limit a && empty x) ≡ keeps count limit table
 unfolding keeps kept
 table-keeps count limit table a x h pa px =
-    ap₂ _&&_ (ap (within limit) pa) (ap empty px) ∙ gathered-kept (length table) count limit (row table) h
+    ap₂ _&&_ (ap (within limit) pa) (ap empty px)
+    ∙ gathered-kept (length table) (length table) count limit (row table) h (le-refl (length table))
 
 -- nothing lies beyond 64 rows
 pub beyond-64 : (t : List ℕ) → length t ≡ 64 → 0 ≡ gather (length t) (beyond 64 (row t))
@@ -140,7 +147,7 @@ beyond-64 t e = sym (gather-front (length t) 64 (row t) (omega arith))
 -- the two tables of roles
 pub roles-keep : (steps people roles : ℕ) (allows holds : List ℕ) (named a b x y : ℕ) → named ≡ full roles
     → steps ≤ length allows → people ≤ length holds
-    → a ≡ gather steps (row allows) → b ≡ gather people (row holds)
+    → a ≡ gather (length allows) (row allows) → b ≡ gather (length holds) (row holds)
     → x ≡ gather (length allows) (beyond steps (row allows)) → y ≡ gather (length holds) (beyond people (row holds))
     → (leb (union a b) named && empty (union x y)) ≡ rolesFit steps people roles allows holds
 roles-keep steps people roles allows holds named a b x y n ha hb pa pb px py =
@@ -160,7 +167,7 @@ pub arrows-keep : (k : ℕ) (r s t u : List ℕ) (inside all past : ℕ) → ins
     → (leb all inside && empty past) ≡ arrowsFit k r s t u
 arrows-keep k r s t u inside all past n h lr ls lt lu pa pp =
     ap₂ _&&_ (ap (leb all) n ∙ within-full k all ∙ ap (within k) pa) (ap empty pp)
-    ∙ gathered-kept 64 k k (rowsTogether r s t u) h
+    ∙ gathered-kept 64 k k k (rowsTogether r s t u) (le-refl k) h
     ∙ kept-union 64 k k (λ i. union (row r i) (row s i)) (λ i. union (row t i) (row u i))
     ∙ ap₂ _&&_ (kept-union 64 k k (row r) (row s) ∙ ap₂ _&&_ (keeps-64 k r lr) (keeps-64 k s ls))
     (kept-union 64 k k (row t) (row u) ∙ ap₂ _&&_ (keeps-64 k t lt) (keeps-64 k u lu))

@@ -17,10 +17,10 @@ pub struct Arrows {
     pub apart: bool,
 }
 
-// The roles that the first `count` rows name.
+// The roles that the rows name. The count of rows is handed in, so that a caller who knows it has a loop of fixed length.
 fn roles_named(table: &[u64], count: usize) -> u64
-    requires { ⌜ (count ≤ 64) × (count ≤ length (now table)) ⌝ }
-    ensures { λ r. ⌜ r ≡ gather count (row (now (table .entry))) ⌝ }
+    requires { ⌜ count ≡ length (now table) ⌝ }
+    ensures { λ r. ⌜ r ≡ gather (length (now (table .entry))) (row (now (table .entry))) ⌝ }
 {
     let mut found = 0;
     let mut i = 0;
@@ -104,12 +104,13 @@ fn roles_full<'a>(people: u64, roles: u64, allows: &'a [u64], holds: &'a [u64]) 
     ensures { λ r. ⌜ r ≡ rolesFit 64 people roles (now (allows .entry)) (now (holds .entry)) ⌝ }
 {
     let p = people as usize;
-    let a = roles_named(allows, 64);
-    let b = roles_named(holds, p);
     let y = roles_beyond(holds, p);
+    let a = roles_named(allows, 64);
+    let b = roles_named(holds, 16);
     (a | b <= sets::full(roles)) & (0 | y == 0)
 }
 
+// All rows are gathered, not those below the count alone: where those beyond are empty it is the same.
 pub fn roles_fit<'a>(
     steps: u64,
     people: u64,
@@ -125,10 +126,10 @@ pub fn roles_fit<'a>(
     }
     let n = steps as usize;
     let p = people as usize;
-    let a = roles_named(allows, n);
-    let b = roles_named(holds, p);
     let x = roles_beyond(allows, n);
     let y = roles_beyond(holds, p);
+    let a = roles_named(allows, 64);
+    let b = roles_named(holds, 16);
     (a | b <= sets::full(roles)) & (x | y == 0)
 }
 

@@ -37,8 +37,8 @@ returns-2 c =
     let a = c .before .before .before .before .before .before .before .before .args in
     let l = c .before .before .before .before .before .before .before .before .pre in
     roles-keep (a .steps) (a .people) (a .roles) (a .allows .now) (a .holds .now) _ _ _ _ _ (c .full .ensures) (omega arith) (omega arith)
-    (c .before .before .before .before .roles-named .ensures) (c .before .before .before .roles-named2 .ensures)
-    (c .before .before .roles-beyond .ensures) (c .before .roles-beyond2 .ensures)
+    (c .before .before .roles-named .ensures) (c .before .roles-named2 .ensures)
+    (c .before .before .before .before .roles-beyond .ensures) (c .before .before .before .roles-beyond2 .ensures)
 
 pub roles-fit-spec : {M : Type 1} → statement M
 roles-fit-spec =
@@ -46,9 +46,9 @@ roles-fit-spec =
     (tie.spec
     roles-full-requires
     returns
-    roles-named-requires
-    roles-named-requires-2
     roles-beyond-requires
     roles-beyond-requires-2
+    roles-named-requires
+    roles-named-requires-2
     full-requires
     returns-2)

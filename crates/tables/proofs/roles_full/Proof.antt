@@ -22,9 +22,9 @@ returns c =
     let a = c .before .before .before .before .before .before .args in
     let l = c .before .before .before .before .before .before .pre in
     roles-keep 64 (a .people) (a .roles) (a .allows .now) (a .holds .now) _ _ _ 0 _ (c .full .ensures) (omega arith) (omega arith)
-    (c .before .before .before .roles-named .ensures) (c .before .before .roles-named2 .ensures) (beyond-64 (a .allows .now) (l .2))
-    (c .before .roles-beyond .ensures)
+    (c .before .before .roles-named .ensures) (c .before .roles-named2 .ensures) (beyond-64 (a .allows .now) (l .2))
+    (c .before .before .before .roles-beyond .ensures)
 
 pub roles-full-spec : {M : Type 1} → statement M
 roles-full-spec =
-    tie.close (tie.spec roles-named-requires roles-named-requires-2 roles-beyond-requires full-requires returns)
+    tie.close (tie.spec roles-beyond-requires roles-named-requires roles-named-requires-2 full-requires returns)

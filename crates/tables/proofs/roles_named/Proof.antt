@@ -2,6 +2,7 @@
 use Prim.Native.Nat.{ℕ, _≤_, _-_}
 use mathlib.Core.Path.{_≡_, _∙_, sym, ap}
 use native.Mathlib.Omega.{arith}
+use lib.ListN.{length}
 use borrow.Author.Needs.{needs}
 use Rattle.sets.specs.Sets.{gather, union}
 use Rattle.sets.specs.Laws.{gather-more}
@@ -40,7 +41,7 @@ loop-again c =
 returns : tie.Need-returns Inv-loop μ-loop
 returns c =
     let a = c .before .before .args in
-    c .before .loop .inv .1 ∙ ap (λ (k : ℕ). gather k (row (a .table .now))) (let e : c .before .loop .i ≡ a .count = omega arith in e)
+    c .before .loop .inv .1 ∙ ap (λ (k : ℕ). gather k (row (a .table .now))) (let e : c .before .loop .i ≡ length (a .table .now) = omega arith in e)
 
 pub roles-named-spec : {M : Type 1} → statement M
 roles-named-spec =
