@@ -29,8 +29,8 @@ spelt (x ∷ rest) = x .kind ∷ x .from ∷ x .to ∷ spelt rest
 -- ---- when 5 is not given
 
 -- the kind is at most 3, and both steps are among the n that there are
-abbrev pub known : ℕ → Arrow → Bool
-known n x = leb (x .kind) 3 && ltb (x .from) n && ltb (x .to) n
+abbrev pub links : ℕ → Arrow → Bool
+links n x = leb (x .kind) 3 && ltb (x .from) n && ltb (x .to) n
 
 -- x comes before y, as triples
 abbrev pub before : Arrow → Arrow → Bool
@@ -38,9 +38,9 @@ before x y =
     ltb (x .kind) (y .kind)
     || (eqb (x .kind) (y .kind) && (ltb (x .from) (y .from) || (eqb (x .from) (y .from) && ltb (x .to) (y .to))))
 
-unfoldable pub allKnown : ℕ → List Arrow → Bool
-allKnown n [] = true
-allKnown n (x ∷ rest) = known n x && allKnown n rest
+unfoldable pub allLink : ℕ → List Arrow → Bool
+allLink n [] = true
+allLink n (x ∷ rest) = links n x && allLink n rest
 
 -- each comes before the next
 unfoldable pub ascending : List Arrow → Bool
@@ -48,10 +48,10 @@ ascending [] = true
 ascending (x ∷ []) = true
 ascending (x ∷ y ∷ rest) = before x y && ascending (y ∷ rest)
 
-abbrev pub arrowsFit : ℕ → List Arrow → Bool
-arrowsFit n arrows = allKnown n arrows && ascending arrows
+abbrev pub linkInOrder : ℕ → List Arrow → Bool
+linkInOrder n arrows = allLink n arrows && ascending arrows
 
--- ---- the table: a row for each kind and step. A condition stands with the step that waits, every other arrow with the step that it comes from
+-- ---- the table: a row for each kind and step. A condition stands with the step that waits, any other arrow with the one it comes from
 
 abbrev pub rowAt : Arrow → ℕ
 rowAt x = cond (eqb (x .kind) 0) (x .to) (x .kind * 64 + x .from)
@@ -75,7 +75,7 @@ tableOf arrows = putAll (replicate 256 0) arrows
 unfoldable pub held : (ℕ → ℕ) → Arrow → Bool
 held rows x = has (rows (rowAt x)) (columnAt x)
 
--- ---- the arrows of a table in order. An arrow's place is its number among all that there could be: the order of triples is the order of places
+-- ---- the arrows of a table in order. An arrow's place is its number among all that could be: triples are ordered as places are
 
 abbrev pub place : Arrow → ℕ
 place x = x .kind * 4096 + x .from * 64 + x .to

@@ -1,5 +1,5 @@
 -- What the loops over arrows carry: for each, what is left to do and the law for one turn more. Assumes nothing.
-use Prim.Native.Nat.{ℕ, zero, suc, _+_, _*_, _^_, _≤_, _<_}
+use Prim.Native.Nat.{ℕ, zero, suc, _+_, _-_, _*_, _^_, _≤_, _<_}
 use mathlib.Core.Path.{_≡_, refl, sym, ap, _∙_, subst}
 use mathlib.Core.List.{List, [], _∷_, _++_, map}
 use mathlib.Core.Bool.{Bool, true, false, _&&_, cond}
@@ -9,23 +9,24 @@ use lib.ListN.{length, getD, set, drop, length-set, length-map, drop-of-length-l
 use lib.Seq.{sets, drop-cons}
 use lib.Dec.{leb}
 use Rattle.sets.specs.Sets.{has, single, union, lowest}
+use Rattle.sets.specs.Laws.{meet-lt}
 use Rattle.sets.specs.Truth.{and-left, and-right}
 use Rattle.tables.specs.Tables.{row}
 use Rattle.numbers.specs.Numbers.{Spliced}
 use Rattle.numbers.specs.Laws.{spliced-then}
 use Rattle.tables.specs.Laws.{rows-at}
-use Rattle.arrows.specs.Arrows.{Arrow, arrowsIn, known, arrowsFit, put, putAll, place, spelt, arrowsBody}
+use Rattle.arrows.specs.Arrows.{Arrow, arrowsIn, links, linkInOrder, put, putAll, place, spelt, arrowsBody}
 use Rattle.sets.specs.Later.{later, later-minus}
 use Rattle.arrows.specs.Lists.{listed-length}
 use Rattle.arrows.specs.Places.{fitFrom, fit-places, length-spelt, spelt-append}
-use Rattle.arrows.specs.Rows.{members, members-none, members-more, toward, rowArrows, kindArrows, countOf, count-arrows}
+use Rattle.arrows.specs.Rows.{members, members-none, members-more, toward, rowArrows, kindArrows, countOf, count-arrows, count-mono}
 use Rattle.arrows.specs.Rows.{kindRows, Kept, turnedIn, length-turned, fromRows, firstKinds, countKinds, count-kinds, by-kind}
 
 -- ---- reading
 
--- the arrow is known, and its place is at least `next`
+-- the arrow links two of the n steps, and its place is at least `next`
 abbrev pub passes : ℕ → ℕ → Arrow → Bool
-passes n next x = known n x && leb next (place x)
+passes n next x = links n x && leb next (place x)
 
 -- the table with the arrows up to the first that does not pass
 unfoldable pub filled : ℕ → ℕ → List ℕ → List Arrow → List ℕ
@@ -89,7 +90,7 @@ abbrev pub Reading : ℕ → List ℕ → List ℕ → ℕ → ℕ → List ℕ 
 Reading n s table₀ next i table = Goes n s 0 0 table₀ next i table
 
 module _ (n : ℕ) (s table₀ : List ℕ) (next i : ℕ) (table : List ℕ) (r : Reading n s table₀ next i table) where
-  pub reading-refused : n ≤ 64 → i + 2 < length s → passes n next (arrowIn s i) ≡ false → (false ≡ arrowsFit n (arrowsIn s))
+  pub reading-refused : n ≤ 64 → i + 2 < length s → passes n next (arrowIn s i) ≡ false → (false ≡ linkInOrder n (arrowsIn s))
       × (table ≡ filled n 0 table₀ (arrowsIn s))
   unfolding fitFrom filled
   reading-refused k h e = (
@@ -99,7 +100,7 @@ module _ (n : ℕ) (s table₀ : List ℕ) (next i : ℕ) (table : List ℕ) (r 
         ∙ ap (λ (b : Bool). cond b (filled n (place (arrowIn s i) + 1) (put table (arrowIn s i)) (arrowsIn (drop (i + 3) s))) table) e),
   )
 
-  pub reading-done : n ≤ 64 → length s ≤ i → (true ≡ arrowsFit n (arrowsIn s)) × (table ≡ filled n 0 table₀ (arrowsIn s))
+  pub reading-done : n ≤ 64 → length s ≤ i → (true ≡ linkInOrder n (arrowsIn s)) × (table ≡ filled n 0 table₀ (arrowsIn s))
   unfolding fitFrom filled
   reading-done k h = (
     sym (sym (fit-places n (arrowsIn s) k) ∙ r .fit ∙ ap (fitFrom n next) (arrows-end s i h)),
@@ -132,21 +133,51 @@ sets-three l v i a b c =
     let r : suc (suc (suc i)) ≡ i + 3 = omega arith in
     λ j. sets (set (set (set l i a) (p j) b) (q j) c) (r j) v
 
--- one arrow is written, the rest of the row is left
-pub write-more : (room : List ℕ) (to k a x : ℕ) → x < 2 ^ 64 → (x ≡ 0 → ⊥)
-    → sets room to (spelt (rowArrows k a x))
-    ≡ sets (set (set (set room to k) (to + 1) a) (to + 2) (lowest 64 x)) (to + 3) (spelt (rowArrows k a (later x)))
-unfolding spelt
-write-more room to k a x small some =
-    ap (λ (l : List Arrow). sets room to (spelt l)) (row-more k a x small some)
-    ∙ sets-three room (spelt (rowArrows k a (later x))) to k a (lowest 64 x)
-
-pub write-done : (room : List ℕ) (to k a x : ℕ) → x ≡ 0 → sets room to (spelt (rowArrows k a x)) ≡ room
-unfolding spelt
-write-done room to k a x e = ap (λ (l : List Arrow). sets room to (spelt l)) (row-none k a x e)
-
 pub length-row : (k a x : ℕ) → length (spelt (rowArrows k a x)) ≡ 3 * length (members x)
 length-row k a x = length-spelt (rowArrows k a x) ∙ ap (λ (n : ℕ). 3 * n) (length-map (members x) (toward k a))
+
+-- a row of which the steps in `rest` are left to write: stored from `to` on, they give what the whole row gives from `at` on
+pub record RowLeft (k a x at : ℕ) (old : List ℕ) (rest to : ℕ) (room : List ℕ) : Type 0 where
+  pub ends : to + 3 * length (members rest) ≡ at + 3 * length (members x)
+  pub long : length room ≡ length old
+  pub small : rest < 2 ^ 64
+  pub stored : sets old at (spelt (rowArrows k a x)) ≡ sets room to (spelt (rowArrows k a rest))
+
+module _ {k a x at : ℕ} {old : List ℕ} {rest to : ℕ} {room : List ℕ} (r : RowLeft k a x at old rest to room) where
+  -- while a step is left, an arrow of it has room
+  pub row-room : (rest ≡ 0 → ⊥) → to + 3 ≤ at + 3 * length (members x)
+  row-room some =
+      let e = r .ends in
+      let less : length (members rest) ≡ suc (length (members (later rest))) = members-less rest (r .small) some in
+      omega arith
+
+  -- the lowest step is written
+  pub row-next : (rest ≡ 0 → ⊥)
+      → RowLeft k a x at old (later rest) (to + 3) (set (set (set room to k) (to + 1) a) (to + 2) (lowest 64 rest))
+  unfolding spelt
+  row-next some =
+      let e = r .ends in
+      let less : length (members rest) ≡ suc (length (members (later rest))) = members-less rest (r .small) some in
+      record {
+        ends = omega arith;
+        long = simp length-set (r .long);
+        small = meet-lt 64 rest (rest - 1) (r .small);
+        stored = r .stored
+            ∙ ap (λ (l : List Arrow). sets room to (spelt l)) (row-more k a rest (r .small) some)
+            ∙ sets-three room (spelt (rowArrows k a (later rest))) to k a (lowest 64 rest);
+      }
+
+  -- none is left
+  pub row-written : rest ≡ 0 → Spliced (spelt (rowArrows k a x)) at old room to
+  unfolding spelt
+  row-written none =
+      let e = r .ends in
+      let nil : length (members rest) ≡ 0 = members-nil rest none in
+      let long : length (spelt (rowArrows k a x)) ≡ 3 * length (members x) = length-row k a x in
+      record {
+        next = omega arith;
+        stored = sym (r .stored ∙ ap (λ (l : List Arrow). sets room to (spelt l)) (row-none k a rest none));
+      }
 
 pub length-kind : (k n : ℕ) (rows : ℕ → ℕ) → length (spelt (kindArrows k n rows)) ≡ 3 * countOf n rows
 length-kind k n rows = length-spelt (kindArrows k n rows) ∙ ap (λ (m : ℕ). 3 * m) (count-arrows k n rows)
@@ -169,6 +200,16 @@ kind-more k a at rows old mid new r q s t =
 pub count-more : (a : ℕ) (rows : ℕ → ℕ) → countOf (a + 1) rows ≡ countOf a rows + length (members (rows a))
 unfolding countOf
 count-more a rows = rw add-one refl
+
+-- and the room that the kind takes has room for the row
+pub kind-room : (k a n at : ℕ) (rows : ℕ → ℕ) (old mid : List ℕ) (r : ℕ) → a < n → Spliced (spelt (kindArrows k a rows)) at old mid r
+    → r + 3 * length (members (rows a)) ≤ at + 3 * countOf n rows
+kind-room k a n at rows old mid r h s =
+    let here : countOf (a + 1) rows ≡ countOf a rows + length (members (rows a)) = count-more a rows in
+    let all : countOf (a + 1) rows ≤ countOf n rows = count-mono a n rows h in
+    let gone : length (spelt (kindArrows k a rows)) ≡ 3 * countOf a rows = length-kind k a rows in
+    let next : r ≡ at + length (spelt (kindArrows k a rows)) = s .next in
+    omega arith
 
 pub count-most : (n : ℕ) (rows : ℕ → ℕ) → countOf n rows ≤ 64 * n
 unfolding countOf
@@ -258,21 +299,26 @@ unfolding putAll
 putAll-append t [] m = refl
 putAll-append t (x ∷ rest) m = putAll-append (put t x) rest m
 
--- one step of the row is put, the rest is left
-pub spill-more : (t : List ℕ) (b x : ℕ) → x < 2 ^ 64 → (x ≡ 0 → ⊥)
-    → putAll t (rowArrows 0 b x) ≡ putAll (set t (lowest 64 x) (union (row t (lowest 64 x)) (single b))) (rowArrows 0 b (later x))
-unfolding putAll put
-spill-more t b x small some = ap (putAll t) (row-more 0 b x small some)
+-- a row of which the steps in `rest` are left to put: put into the table as it stands, they give what the whole row gives
+pub record SpillLeft (x b : ℕ) (old : List ℕ) (rest : ℕ) (table : List ℕ) : Type 0 where
+  pub small : rest < 2 ^ 64
+  pub filled : putAll old (rowArrows 0 b x) ≡ putAll table (rowArrows 0 b rest)
 
-pub spill-done : (t : List ℕ) (b x : ℕ) → x ≡ 0 → putAll t (rowArrows 0 b x) ≡ t
-unfolding putAll
-spill-done t b x e = ap (putAll t) (row-none 0 b x e)
+module _ {x b : ℕ} {old : List ℕ} {rest : ℕ} {table : List ℕ} (l : SpillLeft x b old rest table) where
+  pub spill-next : (rest ≡ 0 → ⊥)
+      → SpillLeft x b old (later rest) (set table (lowest 64 rest) (union (row table (lowest 64 rest)) (single b)))
+  unfolding putAll put
+  spill-next some = record {
+    small = meet-lt 64 rest (rest - 1) (l .small);
+    filled = l .filled ∙ ap (putAll table) (row-more 0 b rest (l .small) some);
+  }
+
+  pub spill-done : rest ≡ 0 → table ≡ putAll old (rowArrows 0 b x)
+  unfolding putAll
+  spill-done none = sym (l .filled ∙ ap (putAll table) (row-none 0 b rest none))
 
 pub turn-more : (t : List ℕ) (b : ℕ) (rows : ℕ → ℕ)
     → putAll (putAll t (kindArrows 0 b rows)) (rowArrows 0 b (rows b)) ≡ putAll t (kindArrows 0 (b + 1) rows)
 unfolding kindArrows
 turn-more t b rows = putAll-append t (kindArrows 0 b rows) (rowArrows 0 b (rows b))
     ∙ ap (λ (n : ℕ). putAll t (kindArrows 0 n rows)) (sym (add-one b))
-
-pub length-three : (l : List ℕ) (i a j b k c : ℕ) → length (set (set (set l i a) j b) k c) ≡ length l
-length-three l i a j b k c = length-set (set (set l i a) j b) k c ∙ length-set (set l i a) j b ∙ length-set l i a

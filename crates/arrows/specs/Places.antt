@@ -9,7 +9,7 @@ use lib.ListN.{length}
 use lib.Dec.{eqb, ltb, leb}
 use borrow.Author.Tests.{lt-ltb, le-ltb, le-leb, leb-true, ltb-true, eq-eqb, ne-eqb}
 use Rattle.sets.specs.Truth.{and-left, and-right}
-use Rattle.arrows.specs.Arrows.{Arrow, arrowsIn, spelt, known, before, allKnown, ascending, arrowsFit, place, arrowAt}
+use Rattle.arrows.specs.Arrows.{Arrow, arrowsIn, spelt, links, before, allLink, ascending, linkInOrder, place, arrowAt}
 
 -- an arrow of one of the four kinds between two of 64 steps
 pub record Ranged (x : Arrow) : Type 0 where
@@ -17,8 +17,8 @@ pub record Ranged (x : Arrow) : Type 0 where
   pub from-in : x .from < 64
   pub to-in : x .to < 64
 
-pub known-ranged : (n : ℕ) (x : Arrow) → n ≤ 64 → known n x ≡ true → Ranged x
-known-ranged n x h e =
+pub links-ranged : (n : ℕ) (x : Arrow) → n ≤ 64 → links n x ≡ true → Ranged x
+links-ranged n x h e =
     let k : x .kind ≤ 3 =
     leb-true (x .kind) 3 (and-left (leb (x .kind) 3) (ltb (x .from) n)
     (and-left (leb (x .kind) 3 && ltb (x .from) n) (ltb (x .to) n) e)) in
@@ -82,10 +82,10 @@ before-place x y r q = kinds (decLt (x .kind) (y .kind)) (decLt (y .kind) (x .ki
         ap₂ (λ (b c : Bool). b || (c && inner)) (le-ltb (x .kind) (y .kind) (omega arith)) (eq-eqb (x .kind) (y .kind) e)
         ∙ froms e (decLt (x .from) (y .from)) (decLt (y .from) (x .from))
 
--- the same test with places: each is known, and its place is at least `next`, one past the place before
+-- the same test with places: each links two of the n steps, and its place is at least `next`, one past the place before
 unfoldable pub fitFrom : ℕ → ℕ → List Arrow → Bool
 fitFrom n next [] = true
-fitFrom n next (x ∷ rest) = known n x && leb next (place x) && fitFrom n (place x + 1) rest
+fitFrom n next (x ∷ rest) = links n x && leb next (place x) && fitFrom n (place x + 1) rest
 
 shuffle : (a b c d : Bool) → (a && b && (c && d)) ≡ (a && c && (b && d))
 shuffle true true c d = refl
@@ -93,28 +93,28 @@ shuffle true false true d = refl
 shuffle true false false d = refl
 shuffle false b c d = refl
 
-fit-after : (n : ℕ) (x : Arrow) (l : List Arrow) → n ≤ 64 → known n x ≡ true
-    → fitFrom n (place x + 1) l ≡ (allKnown n l && ascending (x ∷ l))
-unfolding fitFrom allKnown ascending
+fit-after : (n : ℕ) (x : Arrow) (l : List Arrow) → n ≤ 64 → links n x ≡ true
+    → fitFrom n (place x + 1) l ≡ (allLink n l && ascending (x ∷ l))
+unfolding fitFrom allLink ascending
 fit-after n x [] h e = refl
-fit-after n x (y ∷ rest) h e = go (known n y) refl (fit-after n y rest h)
+fit-after n x (y ∷ rest) h e = go (links n y) refl (fit-after n y rest h)
   where
-    go : (b : Bool) → known n y ≡ b → (known n y ≡ true → fitFrom n (place y + 1) rest ≡ (allKnown n rest && ascending (y ∷ rest)))
-        → (known n y && leb (place x + 1) (place y) && fitFrom n (place y + 1) rest) ≡ (known n y && allKnown n rest
+    go : (b : Bool) → links n y ≡ b → (links n y ≡ true → fitFrom n (place y + 1) rest ≡ (allLink n rest && ascending (y ∷ rest)))
+        → (links n y && leb (place x + 1) (place y) && fitFrom n (place y + 1) rest) ≡ (links n y && allLink n rest
         && (before x y && ascending (y ∷ rest)))
     go true k later =
-        ap₂ (λ (a b : Bool). known n y && a && b)
+        ap₂ (λ (a b : Bool). links n y && a && b)
         (ap (λ (m : ℕ). leb m (place y)) (let z : place x + 1 ≡ suc (place x) = omega arith in z)
-        ∙ sym (before-place x y (known-ranged n x h e) (known-ranged n y h k))) (later k)
-        ∙ shuffle (known n y) (before x y) (allKnown n rest) (ascending (y ∷ rest))
+        ∙ sym (before-place x y (links-ranged n x h e) (links-ranged n y h k))) (later k)
+        ∙ shuffle (links n y) (before x y) (allLink n rest) (ascending (y ∷ rest))
     go false k later = ap (λ (b : Bool). b && leb (place x + 1) (place y) && fitFrom n (place y + 1) rest) k
-        ∙ sym (ap (λ (b : Bool). b && allKnown n rest && (before x y && ascending (y ∷ rest))) k)
+        ∙ sym (ap (λ (b : Bool). b && allLink n rest && (before x y && ascending (y ∷ rest))) k)
 
 -- the arrows fit exactly if they pass that test from 0 on
-pub fit-places : (n : ℕ) (l : List Arrow) → n ≤ 64 → fitFrom n 0 l ≡ arrowsFit n l
-unfolding fitFrom allKnown ascending
+pub fit-places : (n : ℕ) (l : List Arrow) → n ≤ 64 → fitFrom n 0 l ≡ linkInOrder n l
+unfolding fitFrom allLink ascending
 fit-places n [] h = refl
-fit-places n (x ∷ rest) h = go (known n x) refl
+fit-places n (x ∷ rest) h = go (links n x) refl
   where
     drop-true : (a : Bool) (b c : Bool) → b ≡ true → (a && b && c) ≡ (a && c)
     drop-true true b c e = ap (λ (d : Bool). d && c) e
@@ -124,14 +124,14 @@ fit-places n (x ∷ rest) h = go (known n x) refl
     assoc true b c = refl
     assoc false b c = refl
 
-    go : (b : Bool) → known n x ≡ b
-        → (known n x && leb 0 (place x) && fitFrom n (place x + 1) rest) ≡ (known n x && allKnown n rest && ascending (x ∷ rest))
+    go : (b : Bool) → links n x ≡ b
+        → (links n x && leb 0 (place x) && fitFrom n (place x + 1) rest) ≡ (links n x && allLink n rest && ascending (x ∷ rest))
     go true k =
-        drop-true (known n x) (leb 0 (place x)) (fitFrom n (place x + 1) rest) (le-leb 0 (place x) (omega arith))
-        ∙ ap (λ (b : Bool). known n x && b) (fit-after n x rest h k)
-        ∙ assoc (known n x) (allKnown n rest) (ascending (x ∷ rest))
+        drop-true (links n x) (leb 0 (place x)) (fitFrom n (place x + 1) rest) (le-leb 0 (place x) (omega arith))
+        ∙ ap (λ (b : Bool). links n x && b) (fit-after n x rest h k)
+        ∙ assoc (links n x) (allLink n rest) (ascending (x ∷ rest))
     go false k = ap (λ (b : Bool). b && leb 0 (place x) && fitFrom n (place x + 1) rest) k
-        ∙ sym (ap (λ (b : Bool). b && allKnown n rest && ascending (x ∷ rest)) k)
+        ∙ sym (ap (λ (b : Bool). b && allLink n rest && ascending (x ∷ rest)) k)
 
 -- ---- bytes and back
 

@@ -1,5 +1,5 @@
--- The arrows of a table row by row, as the writer goes: a kind, then a step that arrows come from, then the steps of its row by the lowest first.
--- Conditions stand with the step that waits, so their table is turned first. Assumes nothing.
+-- The arrows of a table row by row, as the writer goes: a kind, then a step that arrows come from, then the steps of its row, the lowest
+-- first. Conditions stand with the step that waits, so their table is turned first. Assumes nothing.
 use Prim.Native.Nat.{ℕ, zero, suc, _+_, _-_, _*_, _/_, _%_, _^_, _≤_, _<_}
 use mathlib.Core.Path.{_≡_, refl, sym, ap, ap₂, _∙_, subst}
 use mathlib.Core.List.{List, [], _∷_, _++_, map, append-nil}

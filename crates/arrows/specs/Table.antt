@@ -14,9 +14,9 @@ use Rattle.sets.specs.Sets.{has, single, union}
 use Rattle.sets.specs.Truth.{and-left, and-right, or-false}
 use Rattle.sets.specs.Laws.{has-union, has-single, has-zero, has-above, ext, union-lt, single-lt}
 use Rattle.tables.specs.Tables.{row}
-use Rattle.arrows.specs.Arrows.{Arrow, rowAt, columnAt, put, putAll, held, place, arrowAt, known, allKnown}
+use Rattle.arrows.specs.Arrows.{Arrow, rowAt, columnAt, put, putAll, held, place, arrowAt, links, allLink}
 use Rattle.arrows.specs.Lists.{member}
-use Rattle.arrows.specs.Places.{Ranged, known-ranged, arrowAt-place}
+use Rattle.arrows.specs.Places.{Ranged, links-ranged, arrowAt-place}
 
 -- ---- where an arrow stands
 
@@ -139,12 +139,12 @@ abbrev pub AllIn : ℕ → List Arrow → Type 0
 AllIn m [] = Unit {0}
 AllIn m (x ∷ rest) = Ranged x × (rowAt x < m) × AllIn m rest
 
-pub known-in : (n : ℕ) (l : List Arrow) → n ≤ 64 → allKnown n l ≡ true → AllIn 256 l
-unfolding allKnown
-known-in n [] h k = tt
-known-in n (x ∷ rest) h k =
-    let r : Ranged x = known-ranged n x h (and-left (known n x) (allKnown n rest) k) in
-    (r, row-lt x r, known-in n rest h (and-right (known n x) (allKnown n rest) k))
+pub links-in : (n : ℕ) (l : List Arrow) → n ≤ 64 → allLink n l ≡ true → AllIn 256 l
+unfolding allLink
+links-in n [] h k = tt
+links-in n (x ∷ rest) h k =
+    let r : Ranged x = links-ranged n x h (and-left (links n x) (allLink n rest) k) in
+    (r, row-lt x r, links-in n rest h (and-right (links n x) (allLink n rest) k))
 
 pub rows-putAll : (t : List ℕ) (l : List Arrow) → AllIn (length t) l → Rows64 t → Rows64 (putAll t l)
 unfolding putAll

@@ -5,7 +5,7 @@ ghost use Prim.Native.Nat.{_+_, _*_, _%_, _<_, _≤_};
 ghost use lib.ListN.{length};
 ghost use Rattle.tables.specs.Tables.{row};
 ghost use Rattle.numbers.specs.Numbers.{Spliced};
-ghost use Rattle.arrows.specs.Arrows.{arrowsIn, arrowsFit, putAll, spelt, arrowsBody};
+ghost use Rattle.arrows.specs.Arrows.{arrowsIn, linkInOrder, putAll, spelt, arrowsBody};
 ghost use Rattle.arrows.specs.Rows.{members, rowArrows, kindArrows, countOf, turned, turnedIn, fromRows, Kept};
 ghost use Rattle.arrows.specs.Loops.{filled};
 use crate::runs::fits;
@@ -16,7 +16,7 @@ pub mod runs;
 // Puts the arrows into the table, up to the first that does not fit. Do all fit?
 pub fn read(s: &[u8], n: u8, table: &mut [u64; 256]) -> bool
     requires { ⌜ (n ≤ 64) × (length (now s) % 3 ≡ 0) ⌝ }
-    ensures { λ r. ⌜ r ≡ arrowsFit n (arrowsIn (now (s .entry))) ⌝ }
+    ensures { λ r. ⌜ r ≡ linkInOrder n (arrowsIn (now (s .entry))) ⌝ }
     ensures { λ r. ⌜ now (table .exit) ≡ filled n 0 (now (table .entry)) (arrowsIn (now (s .entry))) ⌝ }
 {
     let mut next = 0;

@@ -1,14 +1,12 @@
 // Runs of arrows of one kind that come from one step. A run is read into one set, since a row of the table that is loaded and stored for
 // each of its arrows waits for itself.
 ghost use mathlib.Core.Path.{_≡_};
-ghost use Prim.Native.Nat.{ℕ, _+_, _*_, _%_, _<_, _≤_};
-ghost use mathlib.Core.Bool.{true};
-ghost use mathlib.Core.List.{List};
+ghost use Prim.Native.Nat.{_%_, _<_};
 ghost use lib.ListN.{length};
-ghost use Rattle.arrows.specs.Arrows.{known, place, put};
+ghost use Rattle.arrows.specs.Arrows.{place};
 ghost use Rattle.arrows.specs.Rows.{toward};
-ghost use Rattle.arrows.specs.Loops.{passes, arrowIn, Goes};
-ghost use Rattle.arrows.specs.Runs.{goesOn, numberOf, pointed};
+ghost use Rattle.arrows.specs.Loops.{passes, arrowIn};
+ghost use Rattle.arrows.specs.Runs.{goesOn, pointed, Begins, Taken, Collected};
 
 // Where a run stops, and the least place that an arrow there may have.
 pub struct Stop {
@@ -48,10 +46,18 @@ fn goes_on(s: &[u8], i: usize, head: u16, n: u8, least: u8) -> bool
     (numbers::two(s, i) == head) & (least <= b) & (b < n)
 }
 
-// The run that starts at `at` with an arrow that is known. Each arrow is a step more in the row of the table.
+// Puts the steps into one row of the table.
+fn point(table: &mut [u64; 256], row: u8, steps: u64)
+    ensures { λ r. ⌜ now (table .exit) ≡ pointed (now (table .entry)) row steps ⌝ }
+{
+    let i = row as usize;
+    table[i] = table[i] | steps;
+}
+
+// The run that begins at `at`, of arrows that are no conditions. Each is a step more in one row of the table.
 fn points(s: &[u8], at: usize, n: u8) -> Run
-    requires { ⌜ (n ≤ 64) × (length (now s) % 3 ≡ 0) × (at % 3 ≡ 0) × (at < length (now s)) × (known n (arrowIn (now s) at) ≡ true) × (0 < arrowIn (now s) at .kind) ⌝ }
-    ensures { λ r. ⌜ (at + 3 ≤ r .at) × (r .at ≤ length (now (s .entry))) × (r .at % 3 ≡ 0) × ((t : List ℕ) → Goes n (now (s .entry)) (place (arrowIn (now (s .entry)) at) + 1) (at + 3) (put t (arrowIn (now (s .entry)) at)) (r .next) (r .at) (pointed t (numberOf (arrowIn (now (s .entry)) at)) (r .steps))) ⌝ }
+    requires { ⌜ Begins n (now s) at × (0 < arrowIn (now s) at .kind) ⌝ }
+    ensures { λ r. ⌜ Collected n (now (s .entry)) at (r .at) (r .next) (r .steps) ⌝ }
 {
     let head = numbers::two(s, at);
     let first = s[at + 2];
@@ -71,23 +77,21 @@ fn points(s: &[u8], at: usize, n: u8) -> Run
     }
 }
 
-// The run of conditions that starts at `at` with an arrow that is known. Each stands with the step that waits.
+// The run of conditions that begins at `at`. Each stands with the step that waits.
 fn waits(s: &[u8], at: usize, n: u8, table: &mut [u64; 256]) -> Stop
-    requires { ⌜ (n ≤ 64) × (length (now s) % 3 ≡ 0) × (at % 3 ≡ 0) × (at < length (now s)) × (known n (arrowIn (now s) at) ≡ true) × (arrowIn (now s) at .kind ≡ 0) ⌝ }
-    ensures { λ r. ⌜ (at + 3 ≤ r .at) × (r .at ≤ length (now (s .entry))) × (r .at % 3 ≡ 0) × Goes n (now (s .entry)) (place (arrowIn (now (s .entry)) at) + 1) (at + 3) (put (now (table .entry)) (arrowIn (now (s .entry)) at)) (r .next) (r .at) (now (table .exit)) ⌝ }
+    requires { ⌜ Begins n (now s) at × (arrowIn (now s) at .kind ≡ 0) ⌝ }
+    ensures { λ r. ⌜ Taken n (now (s .entry)) at (now (table .entry)) (r .at) (r .next) (now (table .exit)) ⌝ }
 {
     let head = numbers::two(s, at);
     let a = s[at + 1];
     let one = sets::single(a);
     let first = s[at + 2];
-    let j = first as usize;
-    table[j] = table[j] | one;
+    point(table, first, one);
     let mut least = first + 1;
     let mut i = at + 3;
     while goes_on(s, i, head, n, least) {
         let b = s[i + 2];
-        let k = b as usize;
-        table[k] = table[k] | one;
+        point(table, b, one);
         least = b + 1;
         i += 3;
     }
@@ -97,17 +101,17 @@ fn waits(s: &[u8], at: usize, n: u8, table: &mut [u64; 256]) -> Stop
     }
 }
 
-// Puts the run that starts at `at` with an arrow that is known.
+// Puts the run that begins at `at`.
 pub fn take(s: &[u8], at: usize, n: u8, table: &mut [u64; 256]) -> Stop
-    requires { ⌜ (n ≤ 64) × (length (now s) % 3 ≡ 0) × (at % 3 ≡ 0) × (at < length (now s)) × (known n (arrowIn (now s) at) ≡ true) ⌝ }
-    ensures { λ r. ⌜ (at + 3 ≤ r .at) × (r .at ≤ length (now (s .entry))) × (r .at % 3 ≡ 0) × Goes n (now (s .entry)) (place (arrowIn (now (s .entry)) at) + 1) (at + 3) (put (now (table .entry)) (arrowIn (now (s .entry)) at)) (r .next) (r .at) (now (table .exit)) ⌝ }
+    requires { ⌜ Begins n (now s) at ⌝ }
+    ensures { λ r. ⌜ Taken n (now (s .entry)) at (now (table .entry)) (r .at) (r .next) (now (table .exit)) ⌝ }
 {
     if s[at] == 0 {
         return waits(s, at, n, table);
     }
     let run = points(s, at, n);
-    let j = (s[at] as usize) * 64 + (s[at + 1] as usize);
-    table[j] = table[j] | run.steps;
+    let row = s[at] * 64 + s[at + 1];
+    point(table, row, run.steps);
     Stop {
         at: run.at,
         next: run.next,

@@ -11,7 +11,7 @@ use Rattle.moves.specs.declared.Refusal.{Refusal}
 use Rattle.moves.specs.First.{Line, first}
 use Rattle.tables.specs.Tables.{row, kindsApart}
 use Rattle.tables.specs.Laws.{row-at}
-use Rattle.arrows.specs.Arrows.{Arrow, arrowsFit, tableOf}
+use Rattle.arrows.specs.Arrows.{Arrow, linkInOrder, tableOf}
 use Rattle.arrows.specs.Places.{fit-places}
 use Rattle.arrows.specs.Loops.{filled, filled-all}
 use Rattle.arrows.specs.Rows.{kindRows}
@@ -37,7 +37,7 @@ failed r test rest e = ap (λ (b : Bool). cond (not b) (Verdict.Refused r) (firs
 -- ---- 5
 
 -- the table that was filled from the start, once the arrows fit
-pub arrows-filled : (n : ℕ) (l : List Arrow) → n ≤ 64 → arrowsFit n l ≡ true → filled n 0 (replicate 256 0) l ≡ tableOf l
+pub arrows-filled : (n : ℕ) (l : List Arrow) → n ≤ 64 → linkInOrder n l ≡ true → filled n 0 (replicate 256 0) l ≡ tableOf l
 arrows-filled n l h e = filled-all n 0 (replicate 256 0) l (fit-places n l h ∙ e)
 
 -- ---- 6

@@ -11,7 +11,7 @@ use Rattle.moves.specs.First.{Line, first}
 use Rattle.moves.specs.Move.{markingFits}
 use Rattle.tables.specs.Tables.{countsFit, kindsApart}
 use Rattle.rules.specs.Graph.{Graph, graphOf}
-use Rattle.arrows.specs.Arrows.{Arrow, arrowsIn, arrowsFit, tableOf}
+use Rattle.arrows.specs.Arrows.{Arrow, arrowsIn, linkInOrder, tableOf}
 use Rattle.layout.specs.Layout.{contentsFit, sizeAt, bodyAt}
 use Rattle.bodies.specs.declared.Counts.{Counts as CountsOf}
 use Rattle.bodies.specs.Bodies.{countsIn, markingIn, setsIn, roleSetsFit}
@@ -67,7 +67,7 @@ setsInside s =
 
 -- 5: an arrow of a kind above 3 or of a step that there is not, or arrows that do not ascend
 abbrev pub arrowsRight : List ℕ → Bool
-arrowsRight s = arrowsFit (countsOf s .steps) (arrowsOn s)
+arrowsRight s = linkInOrder (countsOf s .steps) (arrowsOn s)
 
 -- 6: an include and an exclude of one pair
 abbrev pub kindsRight : List ℕ → Bool

@@ -18,10 +18,10 @@ use Rattle.sets.specs.Truth.{and-left, and-right, and-intro, or-cases}
 use Rattle.sets.specs.Laws.{has-above, member-below}
 use Rattle.tables.specs.Tables.{row, keeps}
 use Rattle.tables.specs.Laws.{row-at, rows-at, keeps-row, named-below}
-use Rattle.arrows.specs.Arrows.{Arrow, known, allKnown, arrowsFit, rowAt, tableOf, held, place, arrowAt, arrowsOf}
+use Rattle.arrows.specs.Arrows.{Arrow, links, allLink, linkInOrder, rowAt, tableOf, held, place, arrowAt, arrowsOf}
 use Rattle.arrows.specs.Lists.{member}
-use Rattle.arrows.specs.Places.{Ranged, known-ranged, arrowAt-place}
-use Rattle.arrows.specs.Table.{row-condition, row-other, column-condition, column-other, known-in, rows-filled, held-filled, length-filled, arrowOn, on-ranged, on-held}
+use Rattle.arrows.specs.Places.{Ranged, links-ranged, arrowAt-place}
+use Rattle.arrows.specs.Table.{row-condition, row-other, column-condition, column-other, links-in, rows-filled, held-filled, length-filled, arrowOn, on-ranged, on-held}
 use Rattle.arrows.specs.Codec.{arrows-fit, table-of-arrows}
 use Rattle.arrows.specs.Rows.{Kept, kindRows}
 use Rattle.rounds.specs.Tests.{keeps-exactly}
@@ -37,14 +37,14 @@ module _ (n : ℕ) (table : List ℕ) (k : Kept n table) where
       let f : has (row (kindRows table kind) r) c ≡ true = ap (λ (x : ℕ). has x c) (row-at (kind * 64) 64 table r l) ∙ e in
       (named-below n n t kept r c f, member-below n (row t r) c (keeps-row n n t kept r) f)
 
-  table-known : (y : Arrow) → Ranged y → held (row table) y ≡ true → known n y ≡ true
+  table-known : (y : Arrow) → Ranged y → held (row table) y ≡ true → links n y ≡ true
   unfolding held
   table-known y q e = go (ℕ-discrete (y .kind) 0)
     where
       kind-known : leb (y .kind) 3 ≡ true
       kind-known = le-leb (y .kind) 3 (omega arith)
 
-      go : Dec (y .kind ≡ 0) → known n y ≡ true
+      go : Dec (y .kind ≡ 0) → links n y ≡ true
       go (yes z) =
           let at : 0 * 64 + y .to ≡ rowAt y = sym (row-condition y z ∙ let w : y .to ≡ 0 * 64 + y .to = omega arith in w) in
           let p = names 0 (y .to) (y .from) (omega arith) (q .to-in)
@@ -56,7 +56,7 @@ module _ (n : ℕ) (table : List ℕ) (k : Kept n table) where
           (ap₂ (λ (i s : ℕ). has (row table i) s) at (sym (column-other y z)) ∙ e) in
           and-intro (and-intro kind-known (lt-ltb (y .from) n (p .0))) (lt-ltb (y .to) n (p .1))
 
-  pub table-fit : arrowsFit n (arrowsOf (row table)) ≡ true
+  pub table-fit : linkInOrder n (arrowsOf (row table)) ≡ true
   table-fit = arrows-fit n (row table) (k .few) table-known
 
   row-small : (i : ℕ) → i < 256 → row table i < 2 ^ 64
@@ -77,25 +77,25 @@ module _ (n : ℕ) (table : List ℕ) (k : Kept n table) where
 
 -- ---- the table that known arrows fill
 
-member-known : (n : ℕ) (l : List Arrow) (y : Arrow) → n ≤ 64 → allKnown n l ≡ true → Ranged y → member (map place l) (place y) ≡ true
-    → known n y ≡ true
-unfolding allKnown member
+member-known : (n : ℕ) (l : List Arrow) (y : Arrow) → n ≤ 64 → allLink n l ≡ true → Ranged y → member (map place l) (place y) ≡ true
+    → links n y ≡ true
+unfolding allLink member
 member-known n [] y h k q e = absurd (false≢true e)
 member-known n (z ∷ rest) y h k q e =
-    go (and-left (known n z) (allKnown n rest) k) (or-cases (eqb (place z) (place y)) (member (map place rest) (place y)) e)
-    (member-known n rest y h (and-right (known n z) (allKnown n rest) k) q)
+    go (and-left (links n z) (allLink n rest) k) (or-cases (eqb (place z) (place y)) (member (map place rest) (place y)) e)
+    (member-known n rest y h (and-right (links n z) (allLink n rest) k) q)
   where
-    go : known n z ≡ true → (eqb (place z) (place y) ≡ true) ⊎ (member (map place rest) (place y) ≡ true)
-        → (member (map place rest) (place y) ≡ true → known n y ≡ true) → known n y ≡ true
+    go : links n z ≡ true → (eqb (place z) (place y) ≡ true) ⊎ (member (map place rest) (place y) ≡ true)
+        → (member (map place rest) (place y) ≡ true → links n y ≡ true) → links n y ≡ true
     go first (inl t) later =
-        subst (λ (w : Arrow). known n w ≡ true)
-        (sym (arrowAt-place z (known-ranged n z h first)) ∙ ap arrowAt (eqb-true (place z) (place y) t) ∙ arrowAt-place y q) first
+        subst (λ (w : Arrow). links n w ≡ true)
+        (sym (arrowAt-place z (links-ranged n z h first)) ∙ ap arrowAt (eqb-true (place z) (place y) t) ∙ arrowAt-place y q) first
     go first (inr t) later = later t
 
-on-known : (n i s : ℕ) → i < 256 → known n (arrowOn i s) ≡ true → (i % 64 < n) × (s < n)
+on-known : (n i s : ℕ) → i < 256 → links n (arrowOn i s) ≡ true → (i % 64 < n) × (s < n)
 on-known n i s h e = go (decLt i 64)
   where
-    steps : (y : Arrow) → known n y ≡ true → (y .from < n) × (y .to < n)
+    steps : (y : Arrow) → links n y ≡ true → (y .from < n) × (y .to < n)
     steps y k =
         let kind = leb (y .kind) 3 in
         let from = ltb (y .from) n in
@@ -110,12 +110,12 @@ on-known n i s h e = go (decLt i 64)
 
     go : Dec (i < 64) → (i % 64 < n) × (s < n)
     go (yes l) =
-        let p = steps waits (subst (λ (b : Bool). known n (cond b waits goes) ≡ true) (lt-ltb i 64 l) e) in
+        let p = steps waits (subst (λ (b : Bool). links n (cond b waits goes) ≡ true) (lt-ltb i 64 l) e) in
         let a : i < n = p .1 in
         (omega arith, p .0)
-    go (no l) = steps goes (subst (λ (b : Bool). known n (cond b waits goes) ≡ true) (le-ltb i 64 (omega arith)) e)
+    go (no l) = steps goes (subst (λ (b : Bool). links n (cond b waits goes) ≡ true) (le-ltb i 64 (omega arith)) e)
 
-module _ (n : ℕ) (l : List Arrow) (h : n ≤ 64) (k : allKnown n l ≡ true) where
+module _ (n : ℕ) (l : List Arrow) (h : n ≤ 64) (k : allLink n l ≡ true) where
   row-names : (i s : ℕ) → i < 256 → has (row (tableOf l) i) s ≡ true → (i % 64 < n) × (s < n)
   row-names i s j e = go (decLt s 64)
     where
@@ -124,8 +124,8 @@ module _ (n : ℕ) (l : List Arrow) (h : n ≤ 64) (k : allKnown n l ≡ true) w
           let ranged : Ranged (arrowOn i s) = on-ranged i s j b in
           on-known n i s j
           (member-known n l (arrowOn i s) h k ranged
-          (sym (held-filled 256 l (known-in n l h k) (arrowOn i s) ranged) ∙ on-held (row (tableOf l)) i s ∙ e))
-      go (no b) = absurd (true≢false (sym e ∙ has-above 64 (row (tableOf l) i) s (rows-filled 256 l (known-in n l h k) i) (omega arith)))
+          (sym (held-filled 256 l (links-in n l h k) (arrowOn i s) ranged) ∙ on-held (row (tableOf l)) i s ∙ e))
+      go (no b) = absurd (true≢false (sym e ∙ has-above 64 (row (tableOf l) i) s (rows-filled 256 l (links-in n l h k) i) (omega arith)))
 
   pub filled-kept : Kept n (tableOf l)
   filled-kept = record { few = h; kinds = kinds }

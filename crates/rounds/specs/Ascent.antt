@@ -11,7 +11,7 @@ use lib.ListN.{length, getD}
 use lib.Dec.{eqb, ltb, leb}
 use borrow.Author.Tests.{lt-ltb, le-leb, eq-eqb, ltb-true, leb-true, eqb-true}
 use Rattle.sets.specs.Truth.{and-left, and-right, and-intro, or-cases, or-first, or-second}
-use Rattle.arrows.specs.Arrows.{Arrow, known, before, allKnown, ascending, arrowsFit}
+use Rattle.arrows.specs.Arrows.{Arrow, links, before, allLink, ascending, linkInOrder}
 
 -- ---- the order of triples
 
@@ -73,7 +73,7 @@ pub record Known (n : ℕ) (x : Arrow) : Type 0 where
   pub from-known : x .from < n
   pub to-known : x .to < n
 
-test-known : (n : ℕ) (x : Arrow) → known n x ≡ true → Known n x
+test-known : (n : ℕ) (x : Arrow) → links n x ≡ true → Known n x
 test-known n x e =
     let k = leb (x .kind) 3 in
     let a = ltb (x .from) n in
@@ -84,7 +84,7 @@ test-known n x e =
       to-known = ltb-true (x .to) n (and-right (k && a) b e);
     }
 
-known-test : (n : ℕ) (x : Arrow) → Known n x → known n x ≡ true
+known-test : (n : ℕ) (x : Arrow) → Known n x → links n x ≡ true
 known-test n x k = and-intro (and-intro (le-leb (x .kind) 3 (k .kind-known)) (lt-ltb (x .from) n (k .from-known)))
     (lt-ltb (x .to) n (k .to-known))
 
@@ -95,14 +95,14 @@ AllKnown n l = (i : ℕ) → i < length l → Known n (arrowNo l i)
 abbrev pub Ascending : List Arrow → Type 0
 Ascending l = (i j : ℕ) → i < j → j < length l → Before (arrowNo l i) (arrowNo l j)
 
-all-known : (n : ℕ) (l : List Arrow) → allKnown n l ≡ true → AllKnown n l
-unfolding allKnown
+all-known : (n : ℕ) (l : List Arrow) → allLink n l ≡ true → AllKnown n l
+unfolding allLink
 all-known n [] e i h = absurd (not-suc-le-zero h)
-all-known n (x ∷ rest) e zero h = test-known n x (and-left (known n x) (allKnown n rest) e)
-all-known n (x ∷ rest) e (suc i) h = all-known n rest (and-right (known n x) (allKnown n rest) e) i (le-of-suc-le-suc h)
+all-known n (x ∷ rest) e zero h = test-known n x (and-left (links n x) (allLink n rest) e)
+all-known n (x ∷ rest) e (suc i) h = all-known n rest (and-right (links n x) (allLink n rest) e) i (le-of-suc-le-suc h)
 
-known-all : (n : ℕ) (l : List Arrow) → AllKnown n l → allKnown n l ≡ true
-unfolding allKnown
+known-all : (n : ℕ) (l : List Arrow) → AllKnown n l → allLink n l ≡ true
+unfolding allLink
 known-all n [] k = refl
 known-all n (x ∷ rest) k = and-intro (known-test n x (k 0 (omega arith))) (known-all n rest (λ i h. k (suc i) (omega arith)))
 
@@ -135,8 +135,8 @@ all-ascends (x ∷ y ∷ rest) a =
     (all-ascends (y ∷ rest) (λ i j h k. a (suc i) (suc j) (omega arith) (omega arith)))
 
 -- 5 is not given exactly if this holds
-pub arrows-exactly : (n : ℕ) (l : List Arrow) → (arrowsFit n l ≡ true) ↔ (AllKnown n l × Ascending l)
+pub arrows-exactly : (n : ℕ) (l : List Arrow) → (linkInOrder n l ≡ true) ↔ (AllKnown n l × Ascending l)
 arrows-exactly n l = (
-  λ e. (all-known n l (and-left (allKnown n l) (ascending l) e), ascends-all l (and-right (allKnown n l) (ascending l) e)),
+  λ e. (all-known n l (and-left (allLink n l) (ascending l) e), ascends-all l (and-right (allLink n l) (ascending l) e)),
   λ p. and-intro (known-all n l (p .0)) (all-ascends l (p .1)),
 )

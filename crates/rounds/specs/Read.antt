@@ -20,7 +20,7 @@ use Rattle.tables.specs.Tables.{row, tableAt, countsFit, kindsApart}
 use Rattle.tables.specs.Laws.{rows-at}
 use Rattle.rules.specs.Graph.{Graph, graphOf}
 use Rattle.rules.specs.Block.{kinds-joined, block-whole}
-use Rattle.arrows.specs.Arrows.{Arrow, arrowsFit, arrowsIn, tableOf, arrowsOf, arrowsBody}
+use Rattle.arrows.specs.Arrows.{Arrow, linkInOrder, arrowsIn, tableOf, arrowsOf, arrowsBody}
 use Rattle.arrows.specs.Places.{arrowsIn-spelt, length-spelt}
 use Rattle.layout.specs.Layout.{contentsFit, offsetAt, sizeAt, bodyAt}
 use Rattle.layout.specs.Lists.{length-part}
@@ -185,7 +185,7 @@ module _ (block : List ℕ) (m : Marking) (whole : length block ≡ 339) (e : fi
 
   arrows-right : arrowsRight s ≡ true
   arrows-right =
-      ap₂ (λ (c : Counts) (a : List Arrow). arrowsFit (c .steps) a) counts-back arrows-back
+      ap₂ (λ (c : Counts) (a : List Arrow). linkInOrder (c .steps) a) counts-back arrows-back
       ∙ table-fit (g .steps) (tableAt 3 256 block) (part-kept block (graph-clear g m e))
 
   kinds-right : kindsRight s ≡ true

@@ -17,11 +17,11 @@ use Rattle.rules.specs.Graph.{Graph}
 use Rattle.tables.specs.Tables.{row, tableAt, keeps, kindsApart}
 use Rattle.tables.specs.Laws.{row-at, keeps-row, named-below}
 use Rattle.rules.specs.Paper.{condition, response, includes, excludes}
-use Rattle.arrows.specs.Arrows.{Arrow, allKnown, ascending, arrowsFit, tableOf, held, place, arrowAt}
+use Rattle.arrows.specs.Arrows.{Arrow, allLink, ascending, linkInOrder, tableOf, held, place, arrowAt}
 use Rattle.arrows.specs.Lists.{member}
 use Rattle.arrows.specs.Places.{Ranged, arrowAt-place}
 use Rattle.arrows.specs.Rows.{toward, kindRows}
-use Rattle.arrows.specs.Table.{row-other, column-other, known-in, held-filled}
+use Rattle.arrows.specs.Table.{row-other, column-other, links-in, held-filled}
 use Rattle.reading.specs.Reading.{countsOf, arrowsOn, blockRead, graphIn, arrowsRight}
 use Rattle.reading.specs.Laws.{read-kind}
 use Rattle.rounds.specs.Arrows.{filled-kept}
@@ -71,16 +71,16 @@ stands-member (x ∷ rest) y (suc i) h e = or-second (eqb (place x) (place y)) (
 
 -- ---- the table of arrows that fit
 
-module _ (n : ℕ) (l : List Arrow) (h : n ≤ 64) (fit : arrowsFit n l ≡ true) where
+module _ (n : ℕ) (l : List Arrow) (h : n ≤ 64) (fit : linkInOrder n l ≡ true) where
   all : AllKnown n l
   all = arrows-exactly n l .0 fit .0
 
-  tests : allKnown n l ≡ true
-  tests = and-left (allKnown n l) (ascending l) fit
+  tests : allLink n l ≡ true
+  tests = and-left (allLink n l) (ascending l) fit
 
   held-exactly : (y : Arrow) → Ranged y → (held (row (tableOf l)) y ≡ true) ↔ Stands l y
   held-exactly y r =
-      let same : held (row (tableOf l)) y ≡ member (map place l) (place y) = held-filled 256 l (known-in n l h tests) y r in (
+      let same : held (row (tableOf l)) y ≡ member (map place l) (place y) = held-filled 256 l (links-in n l h tests) y r in (
         λ e. member-stands n l y h all r (sym same ∙ e),
         λ f. same ∙ stands-member l y (f .0) (f .1) (f .2),
       )

@@ -11,7 +11,7 @@ use Rattle.tables.specs.Tables.{keeps}
 use Rattle.rules.specs.Graph.{graphOf, setsFit}
 use Rattle.numbers.specs.Numbers.{number, bytes}
 use Rattle.layout.specs.Layout.{contents, joined, follows}
-use Rattle.arrows.specs.Arrows.{arrowsIn, spelt, allKnown, ascending, put, putAll, held, listed, arrowsOf}
+use Rattle.arrows.specs.Arrows.{arrowsIn, spelt, allLink, ascending, put, putAll, held, listed, arrowsOf}
 use Rattle.bodies.specs.Tables.{tabled}
 use Rattle.bodies.specs.Bodies.{rolesBody, roleSetsFit}
 use Rattle.reading.specs.Reading.{layoutFits, readVerdict, blockRead}
@@ -45,6 +45,6 @@ unfolding smallest smallestBlock smallestMarking sheetBytes bytes contents joine
 smallest-written = refl
 
 pub smallest-read : Says smallest smallestBlock smallestMarking
-unfolding smallest smallestBlock smallestMarking readVerdict blockRead first layoutFits follows number roleSetsFit every arrowsIn allKnown
+unfolding smallest smallestBlock smallestMarking readVerdict blockRead first layoutFits follows number roleSetsFit every arrowsIn allLink
     ascending putAll put tabled
 smallest-read = record { clear = refl; job = refl; marking = refl }

@@ -16,7 +16,7 @@ use Rattle.moves.specs.Move.{markingFits}
 use Rattle.tables.specs.Tables.{keeps, countsFit}
 use Rattle.rules.specs.Graph.{graphOf, setsFit}
 use Rattle.rules.specs.Block.{kinds-joined}
-use Rattle.arrows.specs.Arrows.{allKnown, ascending, spelt, tableOf, arrowsBody}
+use Rattle.arrows.specs.Arrows.{allLink, ascending, spelt, tableOf, arrowsBody}
 use Rattle.arrows.specs.Places.{spelt-arrowsIn}
 use Rattle.arrows.specs.Codec.{arrows-of-table}
 use Rattle.arrows.specs.Rows.{Kept}
@@ -80,8 +80,8 @@ module _ (s : List ℕ) (e : readVerdict s ≡ Verdict.Clear) where
 
   table-kept : Kept (countsOf s .steps) (tableOf (arrowsOn s))
   table-kept =
-      let known : allKnown (countsOf s .steps) (arrowsOn s) ≡ true =
-      and-left (allKnown (countsOf s .steps) (arrowsOn s)) (ascending (arrowsOn s)) (right .arrows-in) in
+      let known : allLink (countsOf s .steps) (arrowsOn s) ≡ true =
+      and-left (allLink (countsOf s .steps) (arrowsOn s)) (ascending (arrowsOn s)) (right .arrows-in) in
       filled-kept (countsOf s .steps) (arrowsOn s) few known
 
   sets-fit : setsFit (graphIn s) ≡ true

@@ -1,114 +1,69 @@
--- `write_row`: the arrows that are left, stored from where the loop stands, give what all of them give from the start. Assumes nothing.
-use Prim.Native.Nat.{suc, _+_, _-_, _*_, _<_, _^_}
-use mathlib.Core.Path.{_≡_, refl, sym, _∙_}
+-- `write_row`: the arrows that are left, stored from where the loop stands, give what all of them give from the start. While a step is left
+-- there is room for its arrow, since the whole row was promised room. Assumes nothing.
+use Prim.Native.Nat.{_+_, _≤_}
+use mathlib.Core.Path.{refl}
 use native.Mathlib.Omega.{arith}
 use lib.ListN.{length, length-set}
-use lib.Seq.{sets}
 use borrow.Author.Needs.{needs}
-use Rattle.sets.specs.Sets.{lowest}
-use Rattle.sets.specs.Laws.{meet-lt}
-use Rattle.sets.specs.Later.{later}
-use Rattle.arrows.specs.Arrows.{spelt}
-use Rattle.arrows.specs.Rows.{members, rowArrows}
-use Rattle.arrows.specs.Loops.{members-less, members-nil, write-more, write-done, length-three, length-row}
+use Rattle.arrows.specs.Rows.{members}
+use Rattle.arrows.specs.Loops.{RowLeft, members-less, row-room, row-next, row-written}
 use Rattle.arrows.proofs.write_row.Statement.{statement}
 use Rattle.arrows.proofs.write_row.Tie as tie
 
 abbrev Inv-loop : tie.InvT-loop
-Inv-loop k a x room₀ at rest₀ to₀ room rest to = (to + 3 * length (members rest) ≡ at + 3 * length (members x))
-    × (length room ≡ length room₀) × (rest < 2 ^ 64) × (sets room₀ at (spelt (rowArrows k a x)) ≡ sets room to (spelt (rowArrows k a rest)))
+Inv-loop k a x room₀ at rest₀ to₀ room rest to = RowLeft k a x at room₀ rest to room
 
 abbrev μ-loop : tie.MeasureT-loop
 μ-loop k a x room₀ at rest₀ to₀ room rest to = length (members rest)
 
+-- in the loop's body there is room for an arrow
+room : (c : tie.In-loop Inv-loop μ-loop) → c .before .loop .to + 3 ≤ length (c .before .loop .room)
+room c =
+    let left = c .before .loop .inv in
+    let h = row-room left (c .loop-test .taken) in
+    omega arith
+
 loop-holds : tie.Need-loop-holds Inv-loop μ-loop
-loop-holds c = (refl, refl, c .before .fits .x .fits, refl)
+loop-holds c = record { ends = refl; long = refl; small = c .before .fits .x .fits; stored = refl }
 
 lowest-requires : tie.Need-lowest-requires Inv-loop μ-loop
 lowest-requires c κs = search needs
 
 slice-write-room : tie.Need-slice-write-room Inv-loop μ-loop
-slice-write-room c =
-    let a = c .before .before .before .before .args in
-    let l = c .before .before .loop in
-    let less : length (members (l .rest)) ≡ suc (length (members (later (l .rest)))) =
-    members-less (l .rest) (l .inv .2) (c .before .loop-test .taken) in
-    omega arith
+slice-write-room c = let h = room (c .before) in omega arith
 
 add-room : tie.Need-add-room Inv-loop μ-loop
-add-room c =
-    let a = c .before .before .before .before .args in
-    let l = c .before .before .loop in
-    let less : length (members (l .rest)) ≡ suc (length (members (later (l .rest)))) =
-    members-less (l .rest) (l .inv .2) (c .before .loop-test .taken) in
-    omega arith
+add-room c = let h = room (c .before) in omega arith
 
 slice-write-room-2 : tie.Need-slice-write-room-2 Inv-loop μ-loop
-slice-write-room-2 c =
-    let a = c .before .before .before .before .args in
-    let l = c .before .before .loop in
-    let less : length (members (l .rest)) ≡ suc (length (members (later (l .rest)))) =
-    members-less (l .rest) (l .inv .2) (c .before .loop-test .taken) in
-    simp length-set (omega arith)
+slice-write-room-2 c = let h = room (c .before) in simp length-set (omega arith)
 
 add-room-2 : tie.Need-add-room-2 Inv-loop μ-loop
-add-room-2 c =
-    let a = c .before .before .before .before .args in
-    let l = c .before .before .loop in
-    let less : length (members (l .rest)) ≡ suc (length (members (later (l .rest)))) =
-    members-less (l .rest) (l .inv .2) (c .before .loop-test .taken) in
-    omega arith
+add-room-2 c = let h = room (c .before) in omega arith
 
 slice-write-room-3 : tie.Need-slice-write-room-3 Inv-loop μ-loop
-slice-write-room-3 c =
-    let a = c .before .before .before .before .args in
-    let l = c .before .before .loop in
-    let less : length (members (l .rest)) ≡ suc (length (members (later (l .rest)))) =
-    members-less (l .rest) (l .inv .2) (c .before .loop-test .taken) in
-    simp length-set (omega arith)
+slice-write-room-3 c = let h = room (c .before) in simp length-set (omega arith)
 
 add-to : tie.Need-add-to Inv-loop μ-loop
-add-to c =
-    let a = c .before .before .before .before .args in
-    let l = c .before .before .loop in
-    let less : length (members (l .rest)) ≡ suc (length (members (later (l .rest)))) =
-    members-less (l .rest) (l .inv .2) (c .before .loop-test .taken) in
-    omega arith
+add-to c = let h = room (c .before) in omega arith
 
 sub-rest : tie.Need-sub-rest Inv-loop μ-loop
 sub-rest c = search needs
 
 loop-less : tie.Need-loop-less Inv-loop μ-loop
 loop-less c =
-    let l = c .before .before .loop in
-    let less : length (members (l .rest)) ≡ suc (length (members (later (l .rest)))) =
-    members-less (l .rest) (l .inv .2) (c .before .loop-test .taken) in
+    let body = c .before in
+    let less = members-less (body .before .loop .rest) (body .before .loop .inv .small) (body .loop-test .taken) in
     omega arith
 
 loop-again : tie.Need-loop-again Inv-loop μ-loop
-loop-again c =
-    let a = c .before .before .before .before .args in
-    let l = c .before .before .loop in
-    let less : length (members (l .rest)) ≡ suc (length (members (later (l .rest)))) =
-    members-less (l .rest) (l .inv .2) (c .before .loop-test .taken) in
-    simp (c .lowest .ensures) (
-      omega arith,
-      length-three (l .room) (l .to) (a .k) (l .to + 1) (a .a) (l .to + 2) (lowest 64 (l .rest)) ∙ l .inv .1,
-      meet-lt 64 (l .rest) (l .rest - 1) (l .inv .2),
-      l .inv .3
-          ∙ write-more (l .room) (l .to) (a .k) (a .a) (l .rest) (l .inv .2) (c .before .loop-test .taken),
-    )
+loop-again c = simp (c .lowest .ensures) (row-next (c .before .before .loop .inv) (c .before .loop-test .taken))
 
 same-length : tie.Need-same-length Inv-loop μ-loop
-same-length c = c .before .loop .inv .1
+same-length c = c .before .loop .inv .long
 
 returns : tie.Need-returns Inv-loop μ-loop
-returns c =
-    let a = c .before .before .before .args in
-    let l = c .before .loop in
-    let none : length (members (l .rest)) ≡ 0 = members-nil (l .rest) (c .loop-test .left) in
-    let long : length (spelt (rowArrows (a .k) (a .a) (a .x))) ≡ 3 * length (members (a .x)) = length-row (a .k) (a .a) (a .x) in
-    record { next = omega arith; stored = sym (l .inv .3 ∙ write-done (l .room) (l .to) (a .k) (a .a) (l .rest) (c .loop-test .left)) }
+returns c = row-written (c .before .loop .inv) (c .loop-test .left)
 
 pub write-row-spec : {M : Type 1} → statement M
 write-row-spec =

@@ -6,7 +6,7 @@ use mathlib.Core.Bool.{true}
 use lib.ListN.{length}
 use lib.Dec.{lit<}
 use borrow.Author.Needs.{needs}
-use Rattle.arrows.specs.Arrows.{arrowsIn, arrowsFit}
+use Rattle.arrows.specs.Arrows.{arrowsIn, linkInOrder}
 use Rattle.arrows.specs.Loops.{filled}
 use Rattle.bodies.specs.declared.Counts.{Counts}
 use Rattle.reading.specs.Reading.{countsOf, arrowsOn, arrowsRight}
@@ -36,7 +36,7 @@ returns c =
     let o = start .pre .0 in
     let body = c .before .before .body .ensures in
     let fit : c .read .result ≡ arrowsRight s =
-    c .read .ensures .0 ∙ ap₂ (λ (k : Counts) (b : List ℕ). arrowsFit (k .steps) (arrowsIn b)) (o .said) body in
+    c .read .ensures .0 ∙ ap₂ (λ (k : Counts) (b : List ℕ). linkInOrder (k .steps) (arrowsIn b)) (o .said) body in
     let full : c .read .result ≡ true → filled (countsOf s .steps) 0 _ (arrowsOn s) ≡ _ =
     λ e. arrows-filled (countsOf s .steps) (arrowsOn s) (opened-counted s _ o .steps-most) (sym fit ∙ e) in
     (fit, λ e. c .read .ensures .1 ∙ (λ i. filled (o .said i .steps) 0 (start .pre .1 i) (arrowsIn (body i))) ∙ full e)

@@ -1,24 +1,31 @@
--- `points`: the arrows passed are the steps of the set, in one row of whatever table they are to be put into. Assumes nothing.
-use Prim.Native.Nat.{ℕ, _+_, _-_, _%_, _<_, _≤_}
+-- `points`: the arrows passed are the steps of the set, in one row of whatever table they are to be put into, since each arrow that goes on
+-- has the head of the first. Assumes nothing.
+use Prim.Native.Nat.{ℕ, _+_, _-_, _≤_}
 use mathlib.Core.Path.{_≡_, sym, _∙_, subst}
-use mathlib.Core.List.{List}
 use native.Mathlib.Omega.{arith}
 use lib.ListN.{length}
 use borrow.Author.Needs.{needs}
-use Rattle.arrows.specs.Arrows.{place, put}
-use Rattle.arrows.specs.Places.{Ranged, known-ranged}
-use Rattle.arrows.specs.Loops.{arrowIn, Goes}
-use Rattle.arrows.specs.Runs.{On, on, base, numberOf, pointed, point-start, point-more}
+use Rattle.arrows.specs.Runs.{Collected, On, on, base, point-first, point-more}
 use Rattle.arrows.proofs.runs.points.Statement.{statement}
 use Rattle.arrows.proofs.runs.points.Tie as tie
 
 abbrev Inv-loop : tie.InvT-loop
-Inv-loop s at n head first steps₀ least₀ i₀ steps least i = (at + 3 ≤ i) × (i ≤ length s) × (i % 3 ≡ 0) × (least ≤ 64)
-    × ((t : List ℕ) → Goes n s (place (arrowIn s at) + 1) (at + 3) (put t (arrowIn s at)) (base s at + least) i
-    (pointed t (numberOf (arrowIn s at)) steps))
+Inv-loop s at n head first steps₀ least₀ i₀ steps least i = Collected n s at i (base s at + least) steps × (least ≤ 64)
 
 abbrev μ-loop : tie.MeasureT-loop
 μ-loop s at n head first steps₀ least₀ i₀ steps least i = length s - i
+
+-- the start of the function, seen from the loop
+abbrev start : tie.At-loop Inv-loop μ-loop → tie.Start Inv-loop μ-loop
+start c = c .before .before .before .before .before
+
+-- where the loop's body begins, the run goes on
+going : (c : tie.Then1 Inv-loop μ-loop)
+    → let l = c .before .before in On (start l .args .n) (start l .args .s .now) (start l .args .at) (l .loop .i) (l .loop .least)
+going c =
+    let l = c .before .before in
+    on _ _ _ (start l .pre .0) _ _ _ (λ i. l .before .before .before .before .shared-slice-known .given i .fits)
+    (l .before .before .before .two .ensures) (l .loop .inv .0 .reached) (sym (c .before .goes-on .ensures) ∙ c .if1 .taken)
 
 two-requires : tie.Need-two-requires Inv-loop μ-loop
 two-requires c κs = search needs
@@ -30,125 +37,58 @@ shared-slice-read-first : tie.Need-shared-slice-read-first Inv-loop μ-loop
 shared-slice-read-first c = search needs
 
 single-requires : tie.Need-single-requires Inv-loop μ-loop
-single-requires c κs =
-    let a = c .before .before .before .args in
-    let r : Ranged (arrowIn (a .s .now) (a .at)) =
-    known-ranged (a .n) (arrowIn (a .s .now) (a .at)) (c .before .before .before .pre .0) (c .before .before .before .pre .4) in
-    omega arith
+single-requires c κs = search needs
 
 add-least : tie.Need-add-least Inv-loop μ-loop
-add-least c =
-    let a = c .before .before .before .before .args in
-    let r : Ranged (arrowIn (a .s .now) (a .at)) =
-    known-ranged (a .n) (arrowIn (a .s .now) (a .at)) (c .before .before .before .before .pre .0)
-    (c .before .before .before .before .pre .4) in
-    omega arith
+add-least c = search needs
 
 add-i : tie.Need-add-i Inv-loop μ-loop
 add-i c = search needs
 
 loop-holds : tie.Need-loop-holds Inv-loop μ-loop
 loop-holds c =
-    let a = c .before .before .before .before .args in
-    let r : Ranged (arrowIn (a .s .now) (a .at)) =
-    known-ranged (a .n) (arrowIn (a .s .now) (a .at)) (c .before .before .before .before .pre .0)
-    (c .before .before .before .before .pre .4) in
+    let pre = c .before .before .before .before .pre in
     simp (c .single .ensures) (
-      search needs,
+      record {
+        reached = record { further = search needs; within = omega arith; ends = omega arith };
+        puts = λ old. point-first _ _ _ (pre .0) (pre .1) old;
+      },
       omega arith,
-      omega arith,
-      omega arith,
-      λ t.
-          point-start (a .n) (a .s .now) (a .at) t (c .before .before .before .before .pre .5),
     )
 
 goes-on-requires : tie.Need-goes-on-requires Inv-loop μ-loop
 goes-on-requires c κs = search needs
 
 add-b : tie.Need-add-b Inv-loop μ-loop
-add-b c =
-    let a = c .before .before .before .before .before .before .before .args in
-    let l = c .before .before .loop in
-    let o : On (a .s .now) (a .at) (l .i) (a .n) (l .least) =
-    on (a .s .now) (a .at) (l .i) _ (a .n) (l .least)
-    (λ i. c .before .before .before .before .before .before .shared-slice-known .given i .fits)
-    (c .before .before .before .before .before .two .ensures) (sym (c .before .goes-on .ensures) ∙ c .if1 .taken) in
-    omega arith
+add-b c = let o = going c in omega arith
 
 shared-slice-read-b : tie.Need-shared-slice-read-b Inv-loop μ-loop
-shared-slice-read-b c =
-    let a = c .before .before .before .before .before .before .before .before .args in
-    let l = c .before .before .before .loop in
-    let o : On (a .s .now) (a .at) (l .i) (a .n) (l .least) =
-    on (a .s .now) (a .at) (l .i) _ (a .n) (l .least)
-    (λ i. c .before .before .before .before .before .before .before .shared-slice-known .given i .fits)
-    (c .before .before .before .before .before .before .two .ensures)
-    (sym (c .before .before .goes-on .ensures) ∙ c .before .if1 .taken) in
-    omega arith
+shared-slice-read-b c = let o = going (c .before) in omega arith
 
 single-requires-2 : tie.Need-single-requires-2 Inv-loop μ-loop
-single-requires-2 c κs =
-    let a = c .before .before .before .before .before .before .before .before .args in
-    let l = c .before .before .before .loop in
-    let o : On (a .s .now) (a .at) (l .i) (a .n) (l .least) =
-    on (a .s .now) (a .at) (l .i) _ (a .n) (l .least)
-    (λ i. c .before .before .before .before .before .before .before .shared-slice-known .given i .fits)
-    (c .before .before .before .before .before .before .two .ensures)
-    (sym (c .before .before .goes-on .ensures) ∙ c .before .if1 .taken) in
-    omega arith
+single-requires-2 c κs = let o = going (c .before) in omega arith
 
 add-least-2 : tie.Need-add-least-2 Inv-loop μ-loop
-add-least-2 c =
-    let a = c .before .before .before .before .before .before .before .before .before .args in
-    let l = c .before .before .before .before .loop in
-    let o : On (a .s .now) (a .at) (l .i) (a .n) (l .least) =
-    on (a .s .now) (a .at) (l .i) _ (a .n) (l .least)
-    (λ i. c .before .before .before .before .before .before .before .before .shared-slice-known .given i .fits)
-    (c .before .before .before .before .before .before .before .two .ensures)
-    (sym (c .before .before .before .goes-on .ensures) ∙ c .before .before .if1 .taken) in
-    omega arith
+add-least-2 c = let o = going (c .before .before) in omega arith
 
 add-i-2 : tie.Need-add-i-2 Inv-loop μ-loop
-add-i-2 c =
-    let a = c .before .before .before .before .before .before .before .before .before .args in
-    let l = c .before .before .before .before .loop in
-    let o : On (a .s .now) (a .at) (l .i) (a .n) (l .least) =
-    on (a .s .now) (a .at) (l .i) _ (a .n) (l .least)
-    (λ i. c .before .before .before .before .before .before .before .before .shared-slice-known .given i .fits)
-    (c .before .before .before .before .before .before .before .two .ensures)
-    (sym (c .before .before .before .goes-on .ensures) ∙ c .before .before .if1 .taken) in
-    omega arith
+add-i-2 c = let o = going (c .before .before) in omega arith
 
 loop-less : tie.Need-loop-less Inv-loop μ-loop
-loop-less c =
-    let a = c .before .before .before .before .before .before .before .before .before .args in
-    let l = c .before .before .before .before .loop in
-    let o : On (a .s .now) (a .at) (l .i) (a .n) (l .least) =
-    on (a .s .now) (a .at) (l .i) _ (a .n) (l .least)
-    (λ i. c .before .before .before .before .before .before .before .before .shared-slice-known .given i .fits)
-    (c .before .before .before .before .before .before .before .two .ensures)
-    (sym (c .before .before .before .goes-on .ensures) ∙ c .before .before .if1 .taken) in
-    omega arith
+loop-less c = let o = going (c .before .before) in omega arith
 
 loop-again : tie.Need-loop-again Inv-loop μ-loop
 loop-again c =
-    let a = c .before .before .before .before .before .before .before .before .before .args in
-    let l = c .before .before .before .before .loop in
-    let o : On (a .s .now) (a .at) (l .i) (a .n) (l .least) =
-    on (a .s .now) (a .at) (l .i) _ (a .n) (l .least)
-    (λ i. c .before .before .before .before .before .before .before .before .shared-slice-known .given i .fits)
-    (c .before .before .before .before .before .before .before .two .ensures)
-    (sym (c .before .before .before .goes-on .ensures) ∙ c .before .before .if1 .taken) in
-    let h : l .i + 2 < length (a .s .now) = omega arith in
+    let body = c .before .before in
+    let l = body .before .before in
+    let pre = start l .pre in
+    let o = going body in
     simp (c .single2 .ensures) (
+      record {
+        reached = record { further = omega arith; within = omega arith; ends = omega arith };
+        puts = λ old. point-more _ _ _ (pre .0) (pre .1) old (l .loop .i) (l .loop .least) (l .loop .steps) o (l .loop .inv .0 .puts old);
+      },
       omega arith,
-      omega arith,
-      omega arith,
-      omega arith,
-      λ t.
-          point-more (a .n) (a .s .now) (a .at) (l .i) (l .least) (l .steps) _ _ _ t
-          (c .before .before .before .before .before .before .before .before .before .pre .4)
-          (c .before .before .before .before .before .before .before .before .before .pre .5) o h (l .inv .4 t),
     )
 
 shared-slice-read-place : tie.Need-shared-slice-read-place Inv-loop μ-loop
@@ -167,29 +107,15 @@ cast-t22 : tie.Need-cast-t22 Inv-loop μ-loop
 cast-t22 c = search needs
 
 add-t23 : tie.Need-add-t23 Inv-loop μ-loop
-add-t23 c =
-    let a = c .before .before .before .before .before .before .before .before .before .before .args in
-    let l = c .before .before .before .before .before .loop in
-    let r : Ranged (arrowIn (a .s .now) (a .at)) =
-    known-ranged (a .n) (arrowIn (a .s .now) (a .at))
-    (c .before .before .before .before .before .before .before .before .before .before .pre .0)
-    (c .before .before .before .before .before .before .before .before .before .before .pre .4) in
-    let e : c .place .result ≡ base (a .s .now) (a .at) + 0 = c .place .ensures in
-    omega arith
+add-t23 c = search needs
 
 returns : tie.Need-returns Inv-loop μ-loop
 returns c =
-    let a = c .before .before .before .before .before .before .before .before .before .before .args in
-    let l = c .before .before .before .before .before .loop in
-    let e : c .place .result ≡ base (a .s .now) (a .at) + 0 = c .place .ensures in (
-      l .inv .0,
-      l .inv .1,
-      l .inv .2,
-      λ t.
-          subst (λ (p : ℕ). Goes (a .n) (a .s .now) (place (arrowIn (a .s .now) (a .at)) + 1) (a .at + 3)
-          (put t (arrowIn (a .s .now) (a .at))) p (l .i) (pointed t (numberOf (arrowIn (a .s .now) (a .at))) (l .steps)))
-          (let z : base (a .s .now) (a .at) + l .least ≡ c .place .result + l .least = omega arith in z) (l .inv .4 t),
-    )
+    let l = c .before .before .before .before .before in
+    let a = start l .args in
+    let e : c .place .result ≡ base (a .s .now) (a .at) + 0 = c .place .ensures in
+    let next : base (a .s .now) (a .at) + l .loop .least ≡ c .place .result + l .loop .least = omega arith in
+    subst (λ (p : ℕ). Collected (a .n) (a .s .now) (a .at) (l .loop .i) p (l .loop .steps)) next (l .loop .inv .0)
 
 pub points-spec : {M : Type 1} → statement M
 points-spec =

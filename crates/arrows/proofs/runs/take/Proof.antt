@@ -1,10 +1,15 @@
--- `take`: a run of conditions is put arrow by arrow, any other as one set. Assumes nothing.
-use native.Mathlib.Omega.{arith}
+-- `take`: a run of conditions is put arrow by arrow, any other as one set, once `points` has collected its steps. Assumes nothing.
 use borrow.Author.Needs.{needs}
-use Rattle.arrows.specs.Places.{Ranged, known-ranged}
-use Rattle.arrows.specs.Loops.{arrowIn}
+use Rattle.arrows.specs.Runs.{collected-taken}
 use Rattle.arrows.proofs.runs.take.Statement.{statement}
 use Rattle.arrows.proofs.runs.take.Tie as tie
+
+-- seen from the end: where the run was collected, and the start of the function
+abbrev run : tie.After-point → tie.After-points
+run c = c .before .before .before .before
+
+abbrev start : tie.After-point → tie.Start
+start c = run c .before .before .before .before
 
 shared-slice-read-if1 : tie.Need-shared-slice-read-if1
 shared-slice-read-if1 c = search needs
@@ -18,84 +23,26 @@ returns c = search needs
 points-requires : tie.Need-points-requires
 points-requires c κs = search needs
 
-shared-slice-read-j : tie.Need-shared-slice-read-j
-shared-slice-read-j c = search needs
+shared-slice-read-row : tie.Need-shared-slice-read-row
+shared-slice-read-row c = search needs
 
-cast-j : tie.Need-cast-j
-cast-j c =
-    let a = c .before .before .before .before .before .args in
-    let r : Ranged (arrowIn (a .s .now) (a .at)) =
-    known-ranged (a .n) (arrowIn (a .s .now) (a .at)) (c .before .before .before .before .before .pre .0)
-    (c .before .before .before .before .before .pre .4) in
-    omega arith
+mul-row : tie.Need-mul-row
+mul-row c = search needs
 
-mul-j : tie.Need-mul-j
-mul-j c =
-    let a = c .before .before .before .before .before .args in
-    let r : Ranged (arrowIn (a .s .now) (a .at)) =
-    known-ranged (a .n) (arrowIn (a .s .now) (a .at)) (c .before .before .before .before .before .pre .0)
-    (c .before .before .before .before .before .pre .4) in
-    omega arith
+add-row : tie.Need-add-row
+add-row c = search needs
 
-add-j : tie.Need-add-j
-add-j c = search needs
+shared-slice-read-row-2 : tie.Need-shared-slice-read-row-2
+shared-slice-read-row-2 c = search needs
 
-shared-slice-read-j-2 : tie.Need-shared-slice-read-j-2
-shared-slice-read-j-2 c = search needs
+add-row-2 : tie.Need-add-row-2
+add-row-2 c = search needs
 
-cast-j-2 : tie.Need-cast-j-2
-cast-j-2 c =
-    let a = c .before .before .before .before .before .before .args in
-    let r : Ranged (arrowIn (a .s .now) (a .at)) =
-    known-ranged (a .n) (arrowIn (a .s .now) (a .at)) (c .before .before .before .before .before .before .pre .0)
-    (c .before .before .before .before .before .before .pre .4) in
-    omega arith
-
-add-j-2 : tie.Need-add-j-2
-add-j-2 c =
-    let a = c .before .before .before .before .before .before .args in
-    let r : Ranged (arrowIn (a .s .now) (a .at)) =
-    known-ranged (a .n) (arrowIn (a .s .now) (a .at)) (c .before .before .before .before .before .before .pre .0)
-    (c .before .before .before .before .before .before .pre .4) in
-    omega arith
-
-mul-table : tie.Need-mul-table
-mul-table c =
-    let a = c .before .before .before .before .before .before .args in
-    let r : Ranged (arrowIn (a .s .now) (a .at)) =
-    known-ranged (a .n) (arrowIn (a .s .now) (a .at)) (c .before .before .before .before .before .before .pre .0)
-    (c .before .before .before .before .before .before .pre .4) in
-    omega arith
-
-element-copy-out-table : tie.Need-element-copy-out-table
-element-copy-out-table c =
-    let a = c .before .before .before .before .before .before .args in
-    let r : Ranged (arrowIn (a .s .now) (a .at)) =
-    known-ranged (a .n) (arrowIn (a .s .now) (a .at)) (c .before .before .before .before .before .before .pre .0)
-    (c .before .before .before .before .before .before .pre .4) in
-    omega arith
-
-mul-table-2 : tie.Need-mul-table-2
-mul-table-2 c =
-    let a = c .before .before .before .before .before .before .before .before .args in
-    let r : Ranged (arrowIn (a .s .now) (a .at)) =
-    known-ranged (a .n) (arrowIn (a .s .now) (a .at)) (c .before .before .before .before .before .before .before .before .pre .0)
-    (c .before .before .before .before .before .before .before .before .pre .4) in
-    omega arith
-
-element-write-table : tie.Need-element-write-table
-element-write-table c =
-    let a = c .before .before .before .before .before .before .before .before .args in
-    let r : Ranged (arrowIn (a .s .now) (a .at)) =
-    known-ranged (a .n) (arrowIn (a .s .now) (a .at)) (c .before .before .before .before .before .before .before .before .pre .0)
-    (c .before .before .before .before .before .before .before .before .pre .4) in
-    omega arith
+point-requires : tie.Need-point-requires
+point-requires c κs = search needs
 
 returns-2 : tie.Need-returns-2
-returns-2 c =
-    let a = c .before .before .before .before .before .before .before .before .args in
-    let p = c .before .before .before .before .points .ensures in
-    (p .0, p .1, p .2, p .3 (a .table .now))
+returns-2 c = collected-taken (start c .args .table .now) (run c .points .ensures) (c .point .ensures)
 
 pub take-spec : {M : Type 1} → statement M
 take-spec =
@@ -105,15 +52,10 @@ take-spec =
     waits-requires
     returns
     points-requires
-    shared-slice-read-j
-    cast-j
-    mul-j
-    add-j
-    shared-slice-read-j-2
-    cast-j-2
-    add-j-2
-    mul-table
-    element-copy-out-table
-    mul-table-2
-    element-write-table
+    shared-slice-read-row
+    mul-row
+    add-row
+    shared-slice-read-row-2
+    add-row-2
+    point-requires
     returns-2)

@@ -1,25 +1,39 @@
--- `waits`: each condition passed is put where the definition puts it, with the step that waits. Assumes nothing.
-use Prim.Native.Nat.{ℕ, _+_, _-_, _*_, _%_, _<_, _≤_}
+-- `waits`: each condition passed is put where the definition puts it, with the step that waits, since each arrow that goes on has the head
+-- of the first. The loop starts with the first one put, into whatever table there was. Assumes nothing.
+use Prim.Native.Nat.{ℕ, _+_, _-_, _*_, _≤_}
 use mathlib.Core.Path.{_≡_, sym, _∙_, subst}
 use mathlib.Core.List.{List}
 use native.Mathlib.Omega.{arith}
-use lib.ListN.{length, getD, set}
+use lib.ListN.{length, getD}
 use borrow.Author.Needs.{needs}
-use Rattle.arrows.specs.Arrows.{place, put}
-use Rattle.arrows.specs.Places.{Ranged, known-ranged}
-use Rattle.arrows.specs.Loops.{arrowIn, Goes, goes-start, goes-then}
-use Rattle.sets.specs.Sets.{union}
-use Rattle.tables.specs.Tables.{row}
-use Rattle.arrows.specs.Runs.{On, on, base, wait-start, wait-more}
+use Rattle.arrows.specs.Runs.{pointed, Reached, Puts, On, on, base, wait-first, wait-more}
 use Rattle.arrows.proofs.runs.waits.Statement.{statement}
 use Rattle.arrows.proofs.runs.waits.Tie as tie
 
 abbrev Inv-loop : tie.InvT-loop
-Inv-loop s at n table₀ head a one first j least₀ i₀ table least i = (at + 3 ≤ i) × (i ≤ length s) × (i % 3 ≡ 0) × (least ≤ 64)
-    × Goes n s (base s at + least₀) i₀ table₀ (base s at + least) i table
+Inv-loop s at n table₀ head a one first least₀ i₀ table least i =
+    Reached s at i × (least ≤ 64) × ((old : List ℕ) → table₀ ≡ pointed old first one → Puts n s at old (base s at + least) i table)
 
 abbrev μ-loop : tie.MeasureT-loop
-μ-loop s at n table₀ head a one first j least₀ i₀ table least i = length s - i
+μ-loop s at n table₀ head a one first least₀ i₀ table least i = length s - i
+
+-- seen from the loop: where the step that the run comes from was made a set, where its head was read, and the start of the function
+abbrev one : tie.At-loop Inv-loop μ-loop → tie.After-single Inv-loop μ-loop
+one l = l .before .before .before .before
+
+abbrev head : tie.At-loop Inv-loop μ-loop → tie.After-two Inv-loop μ-loop
+head l = one l .before .before
+
+abbrev start : tie.At-loop Inv-loop μ-loop → tie.Start Inv-loop μ-loop
+start l = head l .before .before
+
+-- where the loop's body begins, the run goes on
+going : (c : tie.Then1 Inv-loop μ-loop)
+    → let l = c .before .before in On (start l .args .n) (start l .args .s .now) (start l .args .at) (l .loop .i) (l .loop .least)
+going c =
+    let l = c .before .before in
+    on _ _ _ (start l .pre .0) _ _ _ (λ i. head l .before .shared-slice-known .given i .fits) (head l .two .ensures) (l .loop .inv .0)
+    (sym (c .before .goes-on .ensures) ∙ c .if1 .taken)
 
 two-requires : tie.Need-two-requires Inv-loop μ-loop
 two-requires c κs = search needs
@@ -31,11 +45,7 @@ shared-slice-read-a : tie.Need-shared-slice-read-a Inv-loop μ-loop
 shared-slice-read-a c = search needs
 
 single-requires : tie.Need-single-requires Inv-loop μ-loop
-single-requires c κs =
-    let a = c .before .before .before .args in
-    let r : Ranged (arrowIn (a .s .now) (a .at)) =
-    known-ranged (a .n) (arrowIn (a .s .now) (a .at)) (c .before .before .before .pre .0) (c .before .before .before .pre .4) in
-    omega arith
+single-requires c κs = search needs
 
 add-first : tie.Need-add-first Inv-loop μ-loop
 add-first c = search needs
@@ -43,234 +53,79 @@ add-first c = search needs
 shared-slice-read-first : tie.Need-shared-slice-read-first Inv-loop μ-loop
 shared-slice-read-first c = search needs
 
-cast-j : tie.Need-cast-j Inv-loop μ-loop
-cast-j c =
-    let a = c .before .before .before .before .before .args in
-    let r : Ranged (arrowIn (a .s .now) (a .at)) =
-    known-ranged (a .n) (arrowIn (a .s .now) (a .at)) (c .before .before .before .before .before .pre .0)
-    (c .before .before .before .before .before .pre .4) in
-    omega arith
-
-mul-table : tie.Need-mul-table Inv-loop μ-loop
-mul-table c =
-    let a = c .before .before .before .before .before .args in
-    let r : Ranged (arrowIn (a .s .now) (a .at)) =
-    known-ranged (a .n) (arrowIn (a .s .now) (a .at)) (c .before .before .before .before .before .pre .0)
-    (c .before .before .before .before .before .pre .4) in
-    omega arith
-
-element-copy-out-table : tie.Need-element-copy-out-table Inv-loop μ-loop
-element-copy-out-table c =
-    let a = c .before .before .before .before .before .args in
-    let r : Ranged (arrowIn (a .s .now) (a .at)) =
-    known-ranged (a .n) (arrowIn (a .s .now) (a .at)) (c .before .before .before .before .before .pre .0)
-    (c .before .before .before .before .before .pre .4) in
-    omega arith
-
-mul-table-2 : tie.Need-mul-table-2 Inv-loop μ-loop
-mul-table-2 c =
-    let a = c .before .before .before .before .before .before .args in
-    let r : Ranged (arrowIn (a .s .now) (a .at)) =
-    known-ranged (a .n) (arrowIn (a .s .now) (a .at)) (c .before .before .before .before .before .before .pre .0)
-    (c .before .before .before .before .before .before .pre .4) in
-    omega arith
-
-element-write-table : tie.Need-element-write-table Inv-loop μ-loop
-element-write-table c =
-    let a = c .before .before .before .before .before .before .args in
-    let r : Ranged (arrowIn (a .s .now) (a .at)) =
-    known-ranged (a .n) (arrowIn (a .s .now) (a .at)) (c .before .before .before .before .before .before .pre .0)
-    (c .before .before .before .before .before .before .pre .4) in
-    omega arith
+point-requires : tie.Need-point-requires Inv-loop μ-loop
+point-requires c κs = search needs
 
 add-least : tie.Need-add-least Inv-loop μ-loop
-add-least c =
-    let a = c .before .before .before .before .before .before .args in
-    let r : Ranged (arrowIn (a .s .now) (a .at)) =
-    known-ranged (a .n) (arrowIn (a .s .now) (a .at)) (c .before .before .before .before .before .before .pre .0)
-    (c .before .before .before .before .before .before .pre .4) in
-    omega arith
+add-least c = search needs
 
 add-i : tie.Need-add-i Inv-loop μ-loop
 add-i c = search needs
 
 loop-holds : tie.Need-loop-holds Inv-loop μ-loop
 loop-holds c =
-    let a = c .before .before .before .before .before .before .args in
-    let r : Ranged (arrowIn (a .s .now) (a .at)) =
-    known-ranged (a .n) (arrowIn (a .s .now) (a .at)) (c .before .before .before .before .before .before .pre .0)
-    (c .before .before .before .before .before .before .pre .4) in
-    (search needs, omega arith, omega arith, omega arith, goes-start _ _ _ _ _)
+    let made = c .before .before .before in
+    let pre = made .before .before .before .before .pre in (
+      record { further = search needs; within = omega arith; ends = omega arith },
+      omega arith,
+      λ old e. wait-first _ _ _ (pre .0) (pre .1) _ (made .single .ensures) old _ e,
+    )
 
 goes-on-requires : tie.Need-goes-on-requires Inv-loop μ-loop
 goes-on-requires c κs = search needs
 
 add-b : tie.Need-add-b Inv-loop μ-loop
-add-b c =
-    let a = c .before .before .before .before .before .before .before .before .before .args in
-    let l = c .before .before .loop in
-    let o : On (a .s .now) (a .at) (l .i) (a .n) (l .least) =
-    on (a .s .now) (a .at) (l .i) _ (a .n) (l .least)
-    (λ i. c .before .before .before .before .before .before .before .before .shared-slice-known .given i .fits)
-    (c .before .before .before .before .before .before .before .two .ensures) (sym (c .before .goes-on .ensures) ∙ c .if1 .taken) in
-    omega arith
+add-b c = let o = going c in omega arith
 
 shared-slice-read-b : tie.Need-shared-slice-read-b Inv-loop μ-loop
-shared-slice-read-b c =
-    let a = c .before .before .before .before .before .before .before .before .before .before .args in
-    let l = c .before .before .before .loop in
-    let o : On (a .s .now) (a .at) (l .i) (a .n) (l .least) =
-    on (a .s .now) (a .at) (l .i) _ (a .n) (l .least)
-    (λ i. c .before .before .before .before .before .before .before .before .before .shared-slice-known .given i .fits)
-    (c .before .before .before .before .before .before .before .before .two .ensures)
-    (sym (c .before .before .goes-on .ensures) ∙ c .before .if1 .taken) in
-    omega arith
+shared-slice-read-b c = let o = going (c .before) in omega arith
 
-cast-k : tie.Need-cast-k Inv-loop μ-loop
-cast-k c =
-    let a = c .before .before .before .before .before .before .before .before .before .before .args in
-    let l = c .before .before .before .loop in
-    let o : On (a .s .now) (a .at) (l .i) (a .n) (l .least) =
-    on (a .s .now) (a .at) (l .i) _ (a .n) (l .least)
-    (λ i. c .before .before .before .before .before .before .before .before .before .shared-slice-known .given i .fits)
-    (c .before .before .before .before .before .before .before .before .two .ensures)
-    (sym (c .before .before .goes-on .ensures) ∙ c .before .if1 .taken) in
-    omega arith
-
-mul-table-3 : tie.Need-mul-table-3 Inv-loop μ-loop
-mul-table-3 c =
-    let a = c .before .before .before .before .before .before .before .before .before .before .args in
-    let l = c .before .before .before .loop in
-    let o : On (a .s .now) (a .at) (l .i) (a .n) (l .least) =
-    on (a .s .now) (a .at) (l .i) _ (a .n) (l .least)
-    (λ i. c .before .before .before .before .before .before .before .before .before .shared-slice-known .given i .fits)
-    (c .before .before .before .before .before .before .before .before .two .ensures)
-    (sym (c .before .before .goes-on .ensures) ∙ c .before .if1 .taken) in
-    omega arith
-
-element-copy-out-table-2 : tie.Need-element-copy-out-table-2 Inv-loop μ-loop
-element-copy-out-table-2 c =
-    let a = c .before .before .before .before .before .before .before .before .before .before .args in
-    let l = c .before .before .before .loop in
-    let o : On (a .s .now) (a .at) (l .i) (a .n) (l .least) =
-    on (a .s .now) (a .at) (l .i) _ (a .n) (l .least)
-    (λ i. c .before .before .before .before .before .before .before .before .before .shared-slice-known .given i .fits)
-    (c .before .before .before .before .before .before .before .before .two .ensures)
-    (sym (c .before .before .goes-on .ensures) ∙ c .before .if1 .taken) in
-    omega arith
-
-mul-table-4 : tie.Need-mul-table-4 Inv-loop μ-loop
-mul-table-4 c =
-    let a = c .before .before .before .before .before .before .before .before .before .before .before .args in
-    let l = c .before .before .before .before .loop in
-    let o : On (a .s .now) (a .at) (l .i) (a .n) (l .least) =
-    on (a .s .now) (a .at) (l .i) _ (a .n) (l .least)
-    (λ i. c .before .before .before .before .before .before .before .before .before .before .shared-slice-known .given i .fits)
-    (c .before .before .before .before .before .before .before .before .before .two .ensures)
-    (sym (c .before .before .before .goes-on .ensures) ∙ c .before .before .if1 .taken) in
-    omega arith
-
-element-write-table-2 : tie.Need-element-write-table-2 Inv-loop μ-loop
-element-write-table-2 c =
-    let a = c .before .before .before .before .before .before .before .before .before .before .before .args in
-    let l = c .before .before .before .before .loop in
-    let o : On (a .s .now) (a .at) (l .i) (a .n) (l .least) =
-    on (a .s .now) (a .at) (l .i) _ (a .n) (l .least)
-    (λ i. c .before .before .before .before .before .before .before .before .before .before .shared-slice-known .given i .fits)
-    (c .before .before .before .before .before .before .before .before .before .two .ensures)
-    (sym (c .before .before .before .goes-on .ensures) ∙ c .before .before .if1 .taken) in
-    omega arith
+point-requires-2 : tie.Need-point-requires-2 Inv-loop μ-loop
+point-requires-2 c κs = search needs
 
 add-least-2 : tie.Need-add-least-2 Inv-loop μ-loop
-add-least-2 c =
-    let a = c .before .before .before .before .before .before .before .before .before .before .before .args in
-    let l = c .before .before .before .before .loop in
-    let o : On (a .s .now) (a .at) (l .i) (a .n) (l .least) =
-    on (a .s .now) (a .at) (l .i) _ (a .n) (l .least)
-    (λ i. c .before .before .before .before .before .before .before .before .before .before .shared-slice-known .given i .fits)
-    (c .before .before .before .before .before .before .before .before .before .two .ensures)
-    (sym (c .before .before .before .goes-on .ensures) ∙ c .before .before .if1 .taken) in
-    omega arith
+add-least-2 c = let o = going (c .before .before .before) in omega arith
 
 add-i-2 : tie.Need-add-i-2 Inv-loop μ-loop
-add-i-2 c =
-    let a = c .before .before .before .before .before .before .before .before .before .before .before .args in
-    let l = c .before .before .before .before .loop in
-    let o : On (a .s .now) (a .at) (l .i) (a .n) (l .least) =
-    on (a .s .now) (a .at) (l .i) _ (a .n) (l .least)
-    (λ i. c .before .before .before .before .before .before .before .before .before .before .shared-slice-known .given i .fits)
-    (c .before .before .before .before .before .before .before .before .before .two .ensures)
-    (sym (c .before .before .before .goes-on .ensures) ∙ c .before .before .if1 .taken) in
-    omega arith
+add-i-2 c = let o = going (c .before .before .before) in omega arith
 
 loop-less : tie.Need-loop-less Inv-loop μ-loop
-loop-less c =
-    let a = c .before .before .before .before .before .before .before .before .before .before .before .args in
-    let l = c .before .before .before .before .loop in
-    let o : On (a .s .now) (a .at) (l .i) (a .n) (l .least) =
-    on (a .s .now) (a .at) (l .i) _ (a .n) (l .least)
-    (λ i. c .before .before .before .before .before .before .before .before .before .before .shared-slice-known .given i .fits)
-    (c .before .before .before .before .before .before .before .before .before .two .ensures)
-    (sym (c .before .before .before .goes-on .ensures) ∙ c .before .before .if1 .taken) in
-    omega arith
+loop-less c = let o = going (c .before .before .before) in omega arith
 
 loop-again : tie.Need-loop-again Inv-loop μ-loop
 loop-again c =
-    let a = c .before .before .before .before .before .before .before .before .before .before .before .args in
-    let l = c .before .before .before .before .loop in
-    let o : On (a .s .now) (a .at) (l .i) (a .n) (l .least) =
-    on (a .s .now) (a .at) (l .i) _ (a .n) (l .least)
-    (λ i. c .before .before .before .before .before .before .before .before .before .before .shared-slice-known .given i .fits)
-    (c .before .before .before .before .before .before .before .before .before .two .ensures)
-    (sym (c .before .before .before .goes-on .ensures) ∙ c .before .before .if1 .taken) in
-    let h : l .i + 2 < length (a .s .now) = omega arith in (
+    let body = c .before .before .before in
+    let l = body .before .before in
+    let pre = start l .pre in
+    let o = going body in (
+      record { further = omega arith; within = omega arith; ends = omega arith },
       omega arith,
-      omega arith,
-      omega arith,
-      omega arith,
-      wait-more (a .n) (a .s .now) (a .at) (l .i) (l .least) _ _
-          (c .before .before .before .before .before .before .before .single .result) _ (l .table)
-          (c .before .before .before .before .before .before .before .before .before .before .before .pre .4)
-          (c .before .before .before .before .before .before .before .before .before .before .before .pre .5)
-          (c .before .before .before .before .before .before .before .single .ensures) o h (l .inv .4),
+      λ old e.
+          wait-more _ _ _ (pre .0) (pre .1) _ (one l .single .ensures) old (l .loop .i) (l .loop .least) (l .loop .table) _ o
+          (c .point2 .ensures) (l .loop .inv .2 old e),
     )
 
 place-requires : tie.Need-place-requires Inv-loop μ-loop
 place-requires c κs = search needs
 
-cast-t22 : tie.Need-cast-t22 Inv-loop μ-loop
-cast-t22 c = search needs
+cast-t24 : tie.Need-cast-t24 Inv-loop μ-loop
+cast-t24 c = search needs
 
-add-t36 : tie.Need-add-t36 Inv-loop μ-loop
-add-t36 c =
-    let a = c .before .before .before .before .before .before .before .before .before .before .args in
-    let l = c .before .before .before .loop in
-    let r : Ranged (arrowIn (a .s .now) (a .at)) =
-    known-ranged (a .n) (arrowIn (a .s .now) (a .at))
-    (c .before .before .before .before .before .before .before .before .before .before .pre .0)
-    (c .before .before .before .before .before .before .before .before .before .before .pre .4) in
-    let e : c .place .result ≡ 0 * 4096 + getD (a .s .now) (a .at + 1) 0 * 64 + 0 = c .place .ensures in
-    omega arith
+add-t25 : tie.Need-add-t25 Inv-loop μ-loop
+add-t25 c = search needs
 
 returns : tie.Need-returns Inv-loop μ-loop
 returns c =
-    let a = c .before .before .before .before .before .before .before .before .before .before .args in
-    let l = c .before .before .before .loop in
+    let l = c .before .before .before in
+    let a = start l .args in
     let e : c .place .result ≡ 0 * 4096 + getD (a .s .now) (a .at + 1) 0 * 64 + 0 = c .place .ensures in
-    let k : getD (a .s .now) (a .at) 0 ≡ 0 = c .before .before .before .before .before .before .before .before .before .before .pre .5 in
-    let x = arrowIn (a .s .now) (a .at) in
-    let t₁ : List ℕ = set (a .table .now) (x .to)
-    (union (row (a .table .now) (x .to)) (c .before .before .before .before .before .before .single .result)) in
-    let all : Goes (a .n) (a .s .now) (place x + 1) (a .at + 3) (put (a .table .now) x) (base (a .s .now) (a .at) + l .least) (l .i)
-    (l .table) = goes-then (a .n) (a .s .now) _ _ _ _ _ t₁ _ _ _
-    (simp (c .before .before .before .before .before .before .single .ensures)
-    (wait-start (a .n) (a .s .now) (a .at) (a .table .now) k)) (l .inv .4) in (
-      l .inv .0,
-      l .inv .1,
-      l .inv .2,
-      subst (λ (p : ℕ). Goes (a .n) (a .s .now) (place x + 1) (a .at + 3) (put (a .table .now) x) p (l .i) (l .table))
-          (let z : base (a .s .now) (a .at) + l .least ≡ c .place .result + l .least = omega arith in z) all,
-    )
+    let k : getD (a .s .now) (a .at) 0 ≡ 0 = start l .pre .1 in
+    let next : base (a .s .now) (a .at) + l .loop .least ≡ c .place .result + l .loop .least = omega arith in
+    record {
+      reached = l .loop .inv .0;
+      puts = subst (λ (p : ℕ). Puts (a .n) (a .s .now) (a .at) (a .table .now) p (l .loop .i) (l .loop .table)) next
+          (l .loop .inv .2 (a .table .now) (l .before .point .ensures));
+    }
 
 pub waits-spec : {M : Type 1} → statement M
 waits-spec =
@@ -284,27 +139,19 @@ waits-spec =
     single-requires
     add-first
     shared-slice-read-first
-    cast-j
-    mul-table
-    element-copy-out-table
-    mul-table-2
-    element-write-table
+    point-requires
     add-least
     add-i
     loop-holds
     goes-on-requires
     add-b
     shared-slice-read-b
-    cast-k
-    mul-table-3
-    element-copy-out-table-2
-    mul-table-4
-    element-write-table-2
+    point-requires-2
     add-least-2
     add-i-2
     loop-less
     loop-again
     place-requires
-    cast-t22
-    add-t36
+    cast-t24
+    add-t25
     returns)
