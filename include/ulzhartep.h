@@ -22,7 +22,9 @@
  * What a pointer lends is lent for the time of the call. Where it points to const it is only read; everything else is written
  * only if the call is answered, must not overlap anything else that is lent, and keeps its bytes beyond what is written. Bytes of
  * any number go as a pointer and their length; no pointer is null, not even with a length of 0. Nothing is allocated and nothing
- * is kept, so calls may run at the same time.
+ * is kept, so calls may run at the same time. No call needs more than ULZ_STACK_BYTES of its thread's stack.
+ *
+ * The library is for x86-64 Linux with glibc, of which it needs memcpy and memset. Link with -lulzhartep.
  */
 #ifndef ULZHARTEP_H
 #define ULZHARTEP_H
@@ -43,6 +45,7 @@ extern "C" {
 #define ULZ_RECORD_BYTES 65     /* every record */
 #define ULZ_SHEET_BYTES 37077   /* the longest sheet */
 #define ULZ_SHEET_LEAST 57      /* the shortest sheet that is read: one step, one person, one role, no arrow */
+#define ULZ_STACK_BYTES 4096    /* no call takes more of a thread's stack, whatever it is given */
 
 /*
  * The numbers. Each call names those that it can give. It gives the lowest that holds; for a journal that is the lowest of the

@@ -1,32 +1,18 @@
 //! `compare [--seed S] [--cases N] [--full M] [--first I] [--only FLOOR]`: makes N random and damaged inputs for each floor, and
 //! M with journals of full length, from case I on; calls the box, the model and the peer, and says how often each answer came
 //! and where they differ. Fails (status 1) where they differ, or where in 20,000 cases or more an answer that a call can give
-//! never came up. The floors above the rules are those that the program was built with, by features.
+//! never came up.
 
-// A program that lacks a floor has no use for all that the floors share.
-#![cfg_attr(
-    not(all(feature = "journals", feature = "records", feature = "sheets", feature = "laps", feature = "tracker")),
-    allow(dead_code)
-)]
-
-#[path = "../border/mod.rs"]
-mod border;
 mod floor;
-#[cfg(feature = "records")]
 mod folds;
-#[cfg(feature = "journals")]
 mod journals;
-#[cfg(feature = "laps")]
 mod laps;
 mod lent;
-#[cfg(feature = "records")]
 mod records;
 mod report;
 mod rules;
 mod seen;
-#[cfg(feature = "sheets")]
 mod sheets;
-#[cfg(feature = "tracker")]
 mod tracker;
 mod words;
 
@@ -34,22 +20,10 @@ use floor::Play;
 use report::Report;
 use second::cases::Dice;
 use std::process::ExitCode;
+use ulzhartep::border;
 
-const FLOORS: &[&dyn Play] = &[
-    &rules::FLOOR,
-    #[cfg(feature = "journals")]
-    &journals::FLOOR,
-    #[cfg(feature = "records")]
-    &records::FLOOR,
-    #[cfg(feature = "records")]
-    &folds::FLOOR,
-    #[cfg(feature = "sheets")]
-    &sheets::FLOOR,
-    #[cfg(feature = "laps")]
-    &laps::FLOOR,
-    #[cfg(feature = "tracker")]
-    &tracker::FLOOR,
-];
+const FLOORS: &[&dyn Play] =
+    &[&rules::FLOOR, &journals::FLOOR, &records::FLOOR, &folds::FLOOR, &sheets::FLOOR, &laps::FLOOR, &tracker::FLOOR];
 
 struct Options {
     seed: u64,

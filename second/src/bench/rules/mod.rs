@@ -1,6 +1,5 @@
 mod check;
 mod finished;
-#[cfg(feature = "journals")]
 mod keep;
 mod take;
 
@@ -8,6 +7,5 @@ pub fn run() {
     check::run();
     take::run();
     finished::run();
-    #[cfg(feature = "journals")]
     keep::run();
 }

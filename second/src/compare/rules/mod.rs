@@ -2,7 +2,6 @@
 
 mod check;
 mod finished;
-#[cfg(feature = "journals")]
 mod keep;
 mod take;
 
@@ -17,11 +16,5 @@ pub const FLOOR: Floor<Input> = Floor {
     make: |dice| Input::new(cases::make(dice), |case| &case.graph),
     full: None,
     size: |input| input.size,
-    calls: &[
-        check::CALL,
-        take::CALL,
-        finished::CALL,
-        #[cfg(feature = "journals")]
-        keep::CALL,
-    ],
+    calls: &[check::CALL, take::CALL, finished::CALL, keep::CALL],
 };

@@ -1,6 +1,6 @@
 //! The answers. A number of 0 says that the call is answered, and `waiting` is a step only with 15.
 
-use super::{Entry, Marking, Track};
+use crate::{Entry, Marking, Track};
 
 /// Of the question whether the job is finished: 1 where it is.
 #[repr(C)]

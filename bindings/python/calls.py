@@ -1,0 +1,50 @@
+"""Every call once or twice, against what the rules say of the sample job; and what does not fit is refused by Python."""
+
+import ulzhartep
+from day import CHECK, PUBLISH, REBOOT, job, refused
+from ulzhartep import Entry, Graph, Marking, Record, Refusal
+
+
+def overflows(call, *arguments):
+    try:
+        call(*arguments)
+    except OverflowError:
+        return True
+    return False
+
+
+def main():
+    graph, start = job(), Marking(0, 0, 0b111)
+    rebooted = Marking(0b001, 0b010, 0b011)
+    sheet = graph.write(start)
+    assert len(sheet) == 75 and Graph.read(sheet) == (graph, start)
+    assert refused(Graph.read, sheet[:-1]).refusal == Refusal.LAYOUT
+    assert refused(graph.write, start, 74).refusal == Refusal.ROOM
+    assert refused(Graph(steps=65, people=1, roles=1).check).refusal == Refusal.COUNTS
+    assert graph.run(start, bytes(REBOOT) + bytes(CHECK)) == (2, Marking(0b011, 0, 0b111))
+    assert refused(graph.run, start, b"\0").refusal == Refusal.LENGTH
+    stopped = refused(graph.run, start, bytes(REBOOT) + bytes(PUBLISH))
+    assert (stopped.number, stopped.entries, stopped.marking) == (14, 1, rebooted)
+    day = bytes(REBOOT) + bytes(CHECK)
+    assert [ulzhartep.walk(day, place) for place in range(3)] == [REBOOT, CHECK, None]
+    first, second = graph.fold(bytes(REBOOT)), graph.fold(bytes(CHECK))
+    assert ulzhartep.join(3, first, second) == graph.fold(day)
+    assert ulzhartep.apply(3, first, start) == rebooted
+    record = Record.read(3, first)
+    assert (record.done, record.due_set, record.in_clear) == (0b001, 0b010, 0b100) and record.write(3) == first
+    assert refused(Record.read, 3, first[:64]).refusal == Refusal.ILL_FORMED
+    assert graph.lap(start, b"", day) is None
+    lap = refused(graph.lap, start, b"", bytes(REBOOT) + bytes(PUBLISH))
+    assert (lap.number, lap.index, lap.lap_pass) == (14, 1, 1)
+    assert refused(graph.lap, start, b"", b"").refusal == Refusal.EMPTY_LAP
+    track = graph.track_start(start)
+    assert (track.rank, track.flag, graph.track_idle(track)) == (1, 1, track)
+    track = graph.track_step(track, REBOOT)
+    assert (track.rank, track.flag, track.marking) == (1, 0, rebooted)
+    assert overflows(Entry, 256, 0, 0) and overflows(Marking, 1 << 64) and overflows(ulzhartep.apply, -1, first, start)
+    assert overflows(graph.conditions.__setitem__, 0, 1 << 64) and overflows(setattr, graph, "steps", -1)
+    print("every call answers")
+
+
+if __name__ == "__main__":
+    main()

@@ -1,0 +1,70 @@
+"""A day of the sample job: 0 reboot, 1 order check, 2 publish. After a reboot nothing is published before the check, also where
+the journal has been folded into a record and forgotten."""
+
+from ulzhartep import Entry, Graph, Marking, Refused
+
+REBOOT, CHECK, PUBLISH = Entry(0, 0, 0), Entry(0, 1, 0), Entry(1, 2, 1)
+
+
+def print_marking(when, marking):
+    def steps(numbers):
+        return "{" + ", ".join(str(step) for step in range(64) if numbers >> step & 1) + "}"
+
+    print(f"{when}: done {steps(marking.done)}, due {steps(marking.due)}, included {steps(marking.included)}")
+
+
+def job():
+    """Publish waits for the check, a reboot makes the check due and excludes publishing, and the check includes it again."""
+    graph = Graph(steps=3, people=2, roles=2)
+    graph.conditions[2] = 1 << 1
+    graph.responses[0] = 1 << 1
+    graph.includes[1] = 1 << 2
+    graph.excludes[0] = 1 << 2
+    graph.allows[:3] = [0b11, 0b01, 0b10]
+    graph.holds[:2] = [0b01, 0b10]
+    return graph
+
+
+def refused(call, *arguments):
+    """How the call is refused, which is what this day expects of it."""
+    try:
+        call(*arguments)
+    except Refused as why:
+        return why
+    raise AssertionError("answered")
+
+
+def main():
+    graph, start = job(), Marking(done=0, due=0, included=0b111)
+    graph.check()
+    why = refused(graph.take, start, PUBLISH)
+    print(f"publish: refused with {why.number}, {why.text}: {why.waiting}")
+
+    marking = Marking(included=0b111)
+    graph.keep(marking, REBOOT)
+    print_marking("rebooted", marking)
+    why = refused(graph.keep, marking, PUBLISH)
+    print(f"publish: refused with {why.number}, {why.text}")
+
+    record = graph.fold(bytes(REBOOT))
+    print(f"folded: {len(bytes(REBOOT))} bytes of journal")
+
+    # From here on only the record knows of the reboot.
+    why = refused(graph.restore, record, bytes(PUBLISH), start)
+    print(f"restored, publish: refused with {why.number} at entry {why.entries}, {why.text}")
+    print_marking("before that entry", why.marking)
+    entries, checked = graph.restore(record, bytes(CHECK), start)
+    print(f"restored, check: {entries} entry taken")
+    print_marking("checked", checked)
+
+    published = graph.take(checked, PUBLISH)
+    print_marking("published", published)
+    print(f"finished: {'yes' if graph.finished(published) else 'no'}")
+
+    starved = graph.lap(start, bytes(CHECK), bytes(REBOOT))
+    if starved is not None:
+        print(f"rebooting for ever: starves step {starved}")
+
+
+if __name__ == "__main__":
+    main()

@@ -1,0 +1,70 @@
+use crate::refusal::refused;
+use crate::{border, Entry, Graph, Marking, Refusal, Track, Tracked};
+
+/// Sheets.
+impl Graph {
+    /// The graph of a sheet, and the marking that the job begins with.
+    pub fn read(sheet: &[u8]) -> Result<(Graph, Marking), Refusal> {
+        let (mut graph, mut marking) = (Graph::bare(0, 0, 0), Marking::default());
+        refused(border::read(sheet, &mut graph, &mut marking), 0)?;
+        Ok((graph, marking))
+    }
+
+    /// Writes a sheet into the room, where [`SHEET_BYTES`](crate::SHEET_BYTES) are always enough, and answers how long it is.
+    pub fn write(&self, marking: Marking, room: &mut [u8]) -> Result<usize, Refusal> {
+        let written = border::write(self, marking, room);
+        refused(written.number, 0)?;
+        Ok(written.length as usize)
+    }
+}
+
+/// Rules.
+impl Graph {
+    /// Is this a graph?
+    pub fn check(&self) -> Result<(), Refusal> {
+        refused(border::check(self), 0)
+    }
+
+    /// The marking after the step is taken.
+    pub fn take(&self, marking: Marking, entry: Entry) -> Result<Marking, Refusal> {
+        let moved = border::take(self, marking, entry);
+        refused(moved.number, moved.waiting)?;
+        Ok(moved.marking)
+    }
+
+    /// As [`take`](Graph::take), but an allowed entry changes the marking where it lies; a refused one leaves it.
+    pub fn keep(&self, marking: &mut Marking, entry: Entry) -> Result<(), Refusal> {
+        let kept = border::keep(self, marking, entry);
+        refused(kept.number, kept.waiting)
+    }
+
+    /// Is no step at once due and included?
+    pub fn finished(&self, marking: Marking) -> Result<bool, Refusal> {
+        let ending = border::finished(self, marking);
+        refused(ending.number, 0)?;
+        Ok(ending.finished == 1)
+    }
+}
+
+/// The tracker.
+impl Graph {
+    /// At the beginning of a job.
+    pub fn track_start(&self, marking: Marking) -> Result<Track, Refusal> {
+        tracked(border::track_start(self, marking))
+    }
+
+    /// A while in which nothing is done.
+    pub fn track_idle(&self, track: Track) -> Result<Track, Refusal> {
+        tracked(border::track_idle(self, track))
+    }
+
+    /// Takes a step at the track's marking, and the tracker goes along.
+    pub fn track_step(&self, track: Track, entry: Entry) -> Result<Track, Refusal> {
+        tracked(border::track_step(self, track, entry))
+    }
+}
+
+fn tracked(answer: Tracked) -> Result<Track, Refusal> {
+    refused(answer.number, answer.waiting)?;
+    Ok(answer.track)
+}

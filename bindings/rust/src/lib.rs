@@ -1,0 +1,42 @@
+//! Ulzhartep, the procedure box: safe calls for its library, on x86-64 Linux with glibc.
+//!
+//! A job is a [`Graph`] of steps. People take steps in roles; some steps wait for others, and taking one makes others due,
+//! includes them or excludes them. Every call takes any values and answers with what the rules say or with a [`Refusal`].
+//!
+//! ```no_run
+//! # fn main() -> Result<(), Box<dyn std::error::Error>> {
+//! use ulzhartep::{Entry, Graph};
+//!
+//! let (graph, start) = Graph::read(&std::fs::read("job.sheet")?)?;
+//! let after = graph.take(start, Entry { person: 0, step: 0, role: 0 })?;
+//! println!("finished: {}", graph.finished(after)?);
+//! # Ok(())
+//! # }
+//! ```
+//!
+//! [`border`] has the same calls with the answers word for word as `ulzhartep.h` has them.
+
+mod answers;
+pub mod border;
+mod graph;
+mod jobs;
+mod journals;
+mod record;
+mod refusal;
+mod state;
+
+pub use answers::{Ending, Kept, Lapped, Moved, Ran, Tracked, Walked, Written, ACCEPTED, STARVED};
+pub use graph::Graph;
+pub use journals::{apply, join, walk, LapRefused, Passed, Stopped, Verdict};
+pub use record::Record;
+pub use refusal::Refusal;
+pub use state::{Entry, Marking, Track};
+
+/// The longest journal, in bytes: 21,845 entries.
+pub const JOURNAL_BYTES: usize = 65_535;
+
+/// Every record, in bytes.
+pub const RECORD_BYTES: usize = 65;
+
+/// The longest sheet, in bytes.
+pub const SHEET_BYTES: usize = 37_077;
