@@ -2,46 +2,50 @@
 use crate::commands::Command;
 use crate::texts::say_more;
 use crate::texts::say_phrase;
-use crate::usage::put_use;
+use crate::usage::say_use;
+use lines::page::Page;
 use lines::say::say;
 
-fn say_command(c: Command) {
-    put_use(libc::STDOUT_FILENO, c);
-    say(b": ");
-    say_phrase(c);
+fn say_command(page: &mut Page, c: Command) {
+    say_use(page, c);
+    say(page, b": ");
+    say_phrase(page, c);
 }
 
-fn say_commands() {
-    say_command(Command::Check);
-    say_command(Command::Show);
-    say_command(Command::Write);
-    say_command(Command::May);
-    say_command(Command::Run);
-    say_command(Command::Fold);
-    say_command(Command::Join);
-    say_command(Command::Apply);
-    say_command(Command::Restore);
-    say_command(Command::Record);
-    say_command(Command::Lap);
-    say_command(Command::Track);
-    say_command(Command::Sample);
-    say_command(Command::Help);
+fn say_commands(page: &mut Page) {
+    say_command(page, Command::Check);
+    say_command(page, Command::Show);
+    say_command(page, Command::Write);
+    say_command(page, Command::May);
+    say_command(page, Command::Run);
+    say_command(page, Command::Fold);
+    say_command(page, Command::Join);
+    say_command(page, Command::Apply);
+    say_command(page, Command::Restore);
+    say_command(page, Command::Record);
+    say_command(page, Command::Lap);
+    say_command(page, Command::Track);
+    say_command(page, Command::Sample);
+    say_command(page, Command::Help);
 }
 
-pub fn say_help() {
+pub fn say_help(page: &mut Page) {
     say(
+        page,
         b"ulz asks a job's sheet and journals who may take which step, and folds journals into records of 65 bytes.\n",
     );
-    say_commands();
+    say_commands(page);
     say(
+        page,
         b"A file may be '-', standard input, once in a call. OUT is a new file; --force writes over one that exists.\n",
     );
     say(
+        page,
         b"Exit status: 0 answered; 1 refused, by a line 'refused: NUMBER WORDS'; 2 wrong use, or a file that cannot be read or written.\n",
     );
 }
 
-pub fn say_help_of(c: Command) {
-    say_command(c);
-    say_more(c);
+pub fn say_help_of(page: &mut Page, c: Command) {
+    say_command(page, c);
+    say_more(page, c);
 }

@@ -1,159 +1,218 @@
 // What each command answers, in a phrase and in a few lines.
 use crate::commands::Command;
+use lines::page::Page;
 use lines::say::say;
 
-pub fn say_phrase(c: Command) {
+pub fn say_phrase(page: &mut Page, c: Command) {
     match c {
-        Command::Check => say(b"is the sheet in order?\n"),
-        Command::Show => say(b"what the sheet holds, in words\n"),
-        Command::Write => say(b"writes the sheet of what was read\n"),
-        Command::May => say(b"who may take which step after the journal\n"),
-        Command::Run => say(b"where the journal ends, or its first entry that is not allowed\n"),
-        Command::Fold => say(b"folds the journal into a record\n"),
-        Command::Join => say(b"the record of the first, then the second, for N steps\n"),
-        Command::Apply => say(b"what the record makes of the marking, for N steps\n"),
-        Command::Restore => say(b"goes on from a record with the rest of a journal\n"),
-        Command::Record => say(b"what the record needs and does\n"),
-        Command::Lap => say(b"is the stem, then the lap without end, accepted?\n"),
-        Command::Track => say(b"the tracker's rank and flag, entry by entry\n"),
-        Command::Sample => say(b"writes a small job's files, and walks through the accident\n"),
-        Command::Help => say(b"this list, or a command's own page\n"),
-        Command::Unknown => say(b"\n"),
+        Command::Check => say(page, b"is the sheet in order?\n"),
+        Command::Show => say(page, b"what the sheet holds, in words\n"),
+        Command::Write => say(page, b"writes the sheet of what was read\n"),
+        Command::May => say(page, b"who may take which step after the journal\n"),
+        Command::Run => say(
+            page,
+            b"where the journal ends, or its first entry that is not allowed\n",
+        ),
+        Command::Fold => say(page, b"folds the journal into a record\n"),
+        Command::Join => say(
+            page,
+            b"the record of the first, then the second, for N steps\n",
+        ),
+        Command::Apply => say(page, b"what the record makes of the marking, for N steps\n"),
+        Command::Restore => say(page, b"goes on from a record with the rest of a journal\n"),
+        Command::Record => say(page, b"what the record needs and does\n"),
+        Command::Lap => say(page, b"is the stem, then the lap without end, accepted?\n"),
+        Command::Track => say(page, b"the tracker's rank and flag, entry by entry\n"),
+        Command::Sample => say(
+            page,
+            b"writes a small job's files, and walks through the accident\n",
+        ),
+        Command::Help => say(page, b"this list, or a command's own page\n"),
+        Command::Unknown => say(page, b"\n"),
     }
 }
 
-fn say_check_page() {
-    say(b"Prints 'sheet: ok' and the number of steps, people, roles and arrows.\n");
-    say(b"Refusals: 1 to 6.\n");
+fn say_check_page(page: &mut Page) {
+    say(
+        page,
+        b"Prints 'sheet: ok' and the number of steps, people, roles and arrows.\n",
+    );
+    say(page, b"Refusals: 1 to 6.\n");
 }
 
-fn say_show_page() {
+fn say_show_page(page: &mut Page) {
     say(
+        page,
         b"Prints each person's roles, each step with its roles and its place in the first marking, each arrow in words,\n",
     );
     say(
+        page,
         b"and whether the job is finished there; if not, the steps to do, those both due and included.\n",
     );
-    say(b"Refusals: 1 to 6.\n");
+    say(page, b"Refusals: 1 to 6.\n");
 }
 
-fn say_write_page() {
+fn say_write_page(page: &mut Page) {
     say(
+        page,
         b"Reads the sheet and writes the graph and the first marking that it holds: the same bytes.\n",
     );
-    say(b"Refusals: 1 to 6.\n");
+    say(page, b"Refusals: 1 to 6.\n");
 }
 
-fn say_may_page() {
+fn say_may_page(page: &mut Page) {
     say(
+        page,
         b"Runs the journal from the sheet's first marking, then prints a line 'may' for each person and role that may take a step.\n",
     );
     say(
+        page,
         b"A step that nobody may take is 'blocked', with the reason: not included, what it waits for, or nobody holds its roles.\n",
     );
-    say(b"Refusals: 1 to 6, 7, then 11 to 15 of the first entry not allowed.\n");
+    say(
+        page,
+        b"Refusals: 1 to 6, 7, then 11 to 15 of the first entry not allowed.\n",
+    );
 }
 
-fn say_run_page() {
+fn say_run_page(page: &mut Page) {
     say(
+        page,
         b"Prints the number of entries, the marking at the end (done, due, included), and whether the job is finished.\n",
     );
     say(
+        page,
         b"A refused entry is printed with what it waits for, if it does, and the marking before it.\n",
     );
-    say(b"OUT gets the marking at the end, 24 bytes.\n");
-    say(b"Refusals: 1 to 6, 7, then 11 to 15 of the first entry not allowed.\n");
+    say(page, b"OUT gets the marking at the end, 24 bytes.\n");
+    say(
+        page,
+        b"Refusals: 1 to 6, 7, then 11 to 15 of the first entry not allowed.\n",
+    );
 }
 
-fn say_fold_page() {
+fn say_fold_page(page: &mut Page) {
     say(
+        page,
         b"Prints the record and writes its 65 bytes to OUT. It acts as the journal does, at every marking.\n",
     );
-    say(b"A journal that no marking allows folds to 'never: yes'.\n");
-    say(b"Refusals: 1 to 6, 7.\n");
-}
-
-fn say_join_page() {
-    say(b"Prints the joined record and writes its 65 bytes to OUT.\n");
-    say(b"Refusals: 2 (N is not 1 to 64), 10 (a record is not well-formed for N steps).\n");
-}
-
-fn say_apply_page() {
     say(
+        page,
+        b"A journal that no marking allows folds to 'never: yes'.\n",
+    );
+    say(page, b"Refusals: 1 to 6, 7.\n");
+}
+
+fn say_join_page(page: &mut Page) {
+    say(
+        page,
+        b"Prints the joined record and writes its 65 bytes to OUT.\n",
+    );
+    say(
+        page,
+        b"Refusals: 2 (N is not 1 to 64), 10 (a record is not well-formed for N steps).\n",
+    );
+}
+
+fn say_apply_page(page: &mut Page) {
+    say(
+        page,
         b"MARKING has 24 bytes: done, due, included, 8 bytes each, lowest byte first. Prints the marking after; OUT gets it.\n",
     );
     say(
+        page,
         b"Refusals: 2, 8, 10, and 16 where the record does not apply, with the marking as it was.\n",
     );
 }
 
-fn say_restore_page() {
+fn say_restore_page(page: &mut Page) {
     say(
+        page,
         b"From the sheet's first marking: the record, then the entries. Prints what 'run' prints; entries count in the rest.\n",
     );
     say(
+        page,
         b"Refusals: 1 to 6, 7, 10, 16 where the record does not apply, then 11 to 15 of the first entry not allowed.\n",
     );
 }
 
-fn say_record_page() {
+fn say_record_page(page: &mut Page) {
     say(
+        page,
         b"Prints the record, read for 64 steps: what it needs of a marking, and what it then does to it.\n",
     );
-    say(b"Refusals: 10.\n");
+    say(page, b"Refusals: 10.\n");
 }
 
-fn say_lap_page() {
+fn say_lap_page(page: &mut Page) {
     say(
+        page,
         b"Prints 'accepted' where each step that becomes due is later done or seen excluded, else 'starved' and the lowest step\n",
     );
-    say(b"that stays due and included and is never done.\n");
+    say(page, b"that stays due and included and is never done.\n");
     say(
+        page,
         b"A refused entry is printed with its pass: 0 stem, 1 first lap, 2 second lap, 3 a later one.\n",
     );
-    say(b"Refusals: 1 to 6, 7, 17 (the lap is empty), then 11 to 15.\n");
+    say(
+        page,
+        b"Refusals: 1 to 6, 7, 17 (the lap is empty), then 11 to 15.\n",
+    );
 }
 
-fn say_track_page() {
+fn say_track_page(page: &mut Page) {
     say(
+        page,
         b"Prints the rank and the flag at the start and after each entry, then the marking. Ranks count from 1: step 0 has rank 1.\n",
     );
-    say(b"A refused entry is printed with the rank, flag and marking before it.\n");
-    say(b"Refusals: 1 to 6, 7, then 11 to 15 of the first entry not allowed.\n");
+    say(
+        page,
+        b"A refused entry is printed with the rank, flag and marking before it.\n",
+    );
+    say(
+        page,
+        b"Refusals: 1 to 6, 7, then 11 to 15 of the first entry not allowed.\n",
+    );
 }
 
-fn say_sample_page() {
+fn say_sample_page(page: &mut Page) {
     say(
+        page,
         b"FOLDER ('sample', where none is named) is made if it is missing. Its files: job.sheet, start.marking, reboot.journal,\n",
     );
-    say(b"check.journal, publish.journal, day.journal (all three) and empty.journal.\n");
     say(
+        page,
+        b"check.journal, publish.journal, day.journal (all three) and empty.journal.\n",
+    );
+    say(
+        page,
         b"Then the accident, line by line: a reboot must not lead to a publication before the order check, also not from a record.\n",
     );
 }
 
-fn say_help_page() {
+fn say_help_page(page: &mut Page) {
     say(
+        page,
         b"'ulz help COMMAND' prints its use, what its lines mean and the numbers that it can be refused by.\n",
     );
 }
 
-pub fn say_more(c: Command) {
+pub fn say_more(page: &mut Page, c: Command) {
     match c {
-        Command::Check => say_check_page(),
-        Command::Show => say_show_page(),
-        Command::Write => say_write_page(),
-        Command::May => say_may_page(),
-        Command::Run => say_run_page(),
-        Command::Fold => say_fold_page(),
-        Command::Join => say_join_page(),
-        Command::Apply => say_apply_page(),
-        Command::Restore => say_restore_page(),
-        Command::Record => say_record_page(),
-        Command::Lap => say_lap_page(),
-        Command::Track => say_track_page(),
-        Command::Sample => say_sample_page(),
-        Command::Help => say_help_page(),
+        Command::Check => say_check_page(page),
+        Command::Show => say_show_page(page),
+        Command::Write => say_write_page(page),
+        Command::May => say_may_page(page),
+        Command::Run => say_run_page(page),
+        Command::Fold => say_fold_page(page),
+        Command::Join => say_join_page(page),
+        Command::Apply => say_apply_page(page),
+        Command::Restore => say_restore_page(page),
+        Command::Record => say_record_page(page),
+        Command::Lap => say_lap_page(page),
+        Command::Track => say_track_page(page),
+        Command::Sample => say_sample_page(page),
+        Command::Help => say_help_page(page),
         Command::Unknown => (),
     }
 }

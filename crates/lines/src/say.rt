@@ -1,30 +1,29 @@
-// Text, numbers and sets on standard output.
-use libc::STDOUT_FILENO;
+// Text, numbers and sets on the page.
+use crate::page::Page;
+pub use crate::page::say;
 
-pub fn say(text: &[u8]) {
-    io::write_all(STDOUT_FILENO, text);
-}
-
-pub fn say_number(n: u64) {
-    io::print_decimal(STDOUT_FILENO, n);
+pub fn say_number(page: &mut Page, n: u64) {
+    let mut text = [0u8; 20];
+    let k = io::decimal(n, &mut text);
+    say(page, &text[..k]);
 }
 
 // A line: what is counted, and how many.
-pub fn say_count(key: &[u8], n: u64) {
-    say(key);
-    say(b": ");
-    say_number(n);
-    say(b"\n");
+pub fn say_count(page: &mut Page, key: &[u8], n: u64) {
+    say(page, key);
+    say(page, b": ");
+    say_number(page, n);
+    say(page, b"\n");
 }
 
-pub fn say_wrote(bytes: u64) {
-    say(b"wrote: ");
-    say_number(bytes);
-    say(b" bytes\n");
+pub fn say_wrote(page: &mut Page, bytes: u64) {
+    say(page, b"wrote: ");
+    say_number(page, bytes);
+    say(page, b" bytes\n");
 }
 
 // Member s of x, behind a space; nothing where it is none, or is the lowest, which stands there already.
-fn say_later(x: u64, low: u8, s: u8) {
+fn say_later(page: &mut Page, x: u64, low: u8, s: u8) {
     if s <= low {
         return;
     }
@@ -32,42 +31,42 @@ fn say_later(x: u64, low: u8, s: u8) {
         return;
     }
     if sets::has(x, s) {
-        say(b" ");
-        say_number(s as u64);
+        say(page, b" ");
+        say_number(page, s as u64);
     }
 }
 
-fn say_rest(x: u64, low: u8) {
+fn say_rest(page: &mut Page, x: u64, low: u8) {
     let mut s = 0;
     while s < 64 {
-        say_later(x, low, s);
+        say_later(page, x, low, s);
         s += 1;
     }
 }
 
 // The numbers of a set, ascending, or `none`.
-pub fn say_set(x: u64) {
+pub fn say_set(page: &mut Page, x: u64) {
     if x == 0 {
-        say(b"none");
+        say(page, b"none");
         return;
     }
     let low = sets::lowest(x);
-    say_number(low as u64);
-    say_rest(x, low);
+    say_number(page, low as u64);
+    say_rest(page, x, low);
 }
 
 // A line: what the set is, and its numbers.
-pub fn say_group(key: &[u8], x: u64) {
-    say(key);
-    say(b": ");
-    say_set(x);
-    say(b"\n");
+pub fn say_group(page: &mut Page, key: &[u8], x: u64) {
+    say(page, key);
+    say(page, b": ");
+    say_set(page, x);
+    say(page, b"\n");
 }
 
-pub fn say_flag(up: bool) {
+pub fn say_flag(page: &mut Page, up: bool) {
     if up {
-        say(b"up");
+        say(page, b"up");
     } else {
-        say(b"down");
+        say(page, b"down");
     }
 }

@@ -1,55 +1,61 @@
 // Markings, endings, entries and records.
+use crate::page::Page;
 use crate::refusals::say_refused;
 use crate::say::say;
 use crate::say::say_group;
 use crate::say::say_number;
+use crate::status::Answer;
 use moves::Entry;
 use moves::Marking;
 use records::Record;
 use rules::Ending;
 
-pub fn say_marking(m: Marking) {
-    say_group(b"done", m.done);
-    say_group(b"due", m.due);
-    say_group(b"included", m.included);
+pub fn say_marking(page: &mut Page, m: Marking) {
+    say_group(page, b"done", m.done);
+    say_group(page, b"due", m.due);
+    say_group(page, b"included", m.included);
 }
 
 // The ending of a job at marking m; where it is open, with the steps that are both due and included.
-pub fn say_ending(e: Ending, m: Marking) {
+pub fn say_ending(page: &mut Page, e: Ending, m: Marking) -> Answer {
     match e {
-        Ending::Finished => say(b"finished: yes\n"),
-        Ending::Open => {
-            say(b"finished: no\n");
-            say_group(b"to do", sets::meet(m.due, m.included));
+        Ending::Finished => {
+            say(page, b"finished: yes\n");
+            Answer::Answered
         }
-        Ending::Refused(r) => say_refused(r),
+        Ending::Open => {
+            say(page, b"finished: no\n");
+            say_group(page, b"to do", sets::meet(m.due, m.included));
+            Answer::No
+        }
+        Ending::Refused(r) => say_refused(page, r),
     }
 }
 
 // Entry k of a journal, with no end of line.
-pub fn say_entry(k: u64, e: Entry) {
-    say(b"entry ");
-    say_number(k);
-    say(b": person ");
-    say_number(e.person as u64);
-    say(b", step ");
-    say_number(e.step.0 as u64);
-    say(b", role ");
-    say_number(e.role as u64);
+pub fn say_entry(page: &mut Page, k: u64, e: Entry) {
+    say(page, b"entry ");
+    say_number(page, k);
+    say(page, b": person ");
+    say_number(page, e.person as u64);
+    say(page, b", step ");
+    say_number(page, e.step.0 as u64);
+    say(page, b", role ");
+    say_number(page, e.role as u64);
 }
 
-pub fn say_record(r: Record) {
+pub fn say_record(page: &mut Page, r: Record) {
     if r.never {
-        say(b"never: yes\n");
+        say(page, b"never: yes\n");
     } else {
-        say(b"never: no\n");
+        say(page, b"never: no\n");
     }
-    say_group(b"NeedIn, must be included", r.needin);
-    say_group(b"NeedEx, must have been done", r.needex);
-    say_group(b"NeedOutOrEx, must be excluded or done", r.needout);
-    say_group(b"Done, is done", r.done);
-    say_group(b"DueSet, becomes due", r.dueset);
-    say_group(b"DueClear, is due no more", r.dueclear);
-    say_group(b"InSet, becomes included", r.inset);
-    say_group(b"InClear, becomes excluded", r.inclear);
+    say_group(page, b"NeedIn, must be included", r.needin);
+    say_group(page, b"NeedEx, must have been done", r.needex);
+    say_group(page, b"NeedOutOrEx, must be excluded or done", r.needout);
+    say_group(page, b"Done, is done", r.done);
+    say_group(page, b"DueSet, becomes due", r.dueset);
+    say_group(page, b"DueClear, is due no more", r.dueclear);
+    say_group(page, b"InSet, becomes included", r.inset);
+    say_group(page, b"InClear, becomes excluded", r.inclear);
 }

@@ -1,6 +1,7 @@
 // Markings as files of 24 bytes.
 use files::writing::Target;
 use files::writing::store_to;
+use lines::page::Page;
 use lines::say::say_wrote;
 use moves::Marking;
 
@@ -15,9 +16,9 @@ pub fn keep_marking(t: Target, m: Marking) -> bool {
 }
 
 // After the answer's own lines.
-pub fn say_kept(t: Target) {
+pub fn say_kept(page: &mut Page, t: Target) {
     if t.at == 0 {
         return;
     }
-    say_wrote(24);
+    say_wrote(page, 24);
 }

@@ -1,5 +1,6 @@
 // The tracker, entry by entry.
 use journal::Walked;
+use lines::page::Page;
 use lines::refusals::say_refused;
 use lines::refusals::say_waited;
 use lines::say::say;
@@ -8,6 +9,7 @@ use lines::say::say_flag;
 use lines::say::say_number;
 use lines::states::say_entry;
 use lines::states::say_marking;
+use lines::status::Answer;
 use moves::Entry;
 use moves::Marking;
 use moves::Refusal;
@@ -15,111 +17,113 @@ use rules::Job;
 use tracker::Track;
 use tracker::Tracked;
 
-// A state, and whether the track goes on from it.
+// A state, whether the track goes on from it, and whether an entry was refused there.
 struct Going {
     track: Track,
     on: bool,
+    refused: bool,
 }
 
-fn say_place(t: Track) {
-    say(b"rank ");
-    say_number(t.rank.0 as u64);
-    say(b", flag ");
-    say_flag(t.flag);
-    say(b"\n");
+fn say_place(page: &mut Page, t: Track) {
+    say(page, b"rank ");
+    say_number(page, t.rank.0 as u64);
+    say(page, b", flag ");
+    say_flag(page, t.flag);
+    say(page, b"\n");
 }
 
-fn say_stays(k: usize, e: Entry, r: Refusal, t: Track) {
-    say_refused(r);
-    say_entry(k as u64, e);
-    say(b"\n");
-    say_waited(r);
-    say_count(b"rank", t.rank.0 as u64);
-    say(b"flag: ");
-    say_flag(t.flag);
-    say(b"\n");
+fn say_stays(page: &mut Page, k: usize, e: Entry, r: Refusal, t: Track) {
+    say_refused(page, r);
+    say_entry(page, k as u64, e);
+    say(page, b"\n");
+    say_waited(page, r);
+    say_count(page, b"rank", t.rank.0 as u64);
+    say(page, b"flag: ");
+    say_flag(page, t.flag);
+    say(page, b"\n");
+}
+
+fn goes(t: Track) -> Going {
+    Going {
+        track: t,
+        on: true,
+        refused: false,
+    }
+}
+
+fn halts(t: Track, refused: bool) -> Going {
+    Going {
+        track: t,
+        on: false,
+        refused: refused,
+    }
 }
 
 // Entry k, from a state.
-fn advanced(g: &Job, t: Track, k: usize, e: Entry) -> Going {
+fn advanced(page: &mut Page, g: &Job, t: Track, k: usize, e: Entry) -> Going {
     let o = tracker::advance(g, t, e);
     match o {
         Tracked::At(next) => {
-            say_entry(k as u64, e);
-            say(b", ");
-            say_place(next);
-            Going {
-                track: next,
-                on: true,
-            }
+            say_entry(page, k as u64, e);
+            say(page, b", ");
+            say_place(page, next);
+            goes(next)
         }
         Tracked::Stays(r, before) => {
-            say_stays(k, e, r, before);
-            Going {
-                track: before,
-                on: false,
-            }
+            say_stays(page, k, e, r, before);
+            halts(before, true)
         }
         Tracked::Refused(r) => {
-            say_refused(r);
-            Going {
-                track: t,
-                on: false,
-            }
+            say_refused(page, r);
+            halts(t, true)
         }
     }
 }
 
 // The entry that the journal has at k, if it has one.
-fn onward(g: &Job, t: Track, j: &[u8], k: usize) -> Going {
+fn onward(page: &mut Page, g: &Job, t: Track, j: &[u8], k: usize) -> Going {
     let w = journal::walk_at(j, k).said;
     match w {
-        Walked::At(e) => advanced(g, t, k, e),
-        Walked::End => Going {
-            track: t,
-            on: false,
-        },
-        Walked::Refused(_) => Going {
-            track: t,
-            on: false,
-        },
+        Walked::At(e) => advanced(page, g, t, k, e),
+        Walked::End => halts(t, false),
+        Walked::Refused(_) => halts(t, true),
     }
 }
 
 // A journal has at most 21,845 entries.
-fn follow(g: &Job, start: Track, j: &[u8]) -> Track {
-    let mut at = Going {
-        track: start,
-        on: true,
-    };
+fn follow(page: &mut Page, g: &Job, start: Track, j: &[u8]) -> Going {
+    let mut at = goes(start);
     let mut k = 0;
     while k < 21846 {
-        at = onward(g, at.track, j, k);
+        at = onward(page, g, at.track, j, k);
         if !at.on {
-            return at.track;
+            return at;
         }
         k += 1;
     }
-    at.track
+    at
 }
 
-fn say_tracked(g: &Job, t: Track, j: &[u8]) {
-    say(b"start: ");
-    say_place(t);
-    let end = follow(g, t, j);
-    say_marking(end.marking);
+fn say_tracked(page: &mut Page, g: &Job, t: Track, j: &[u8]) -> Answer {
+    say(page, b"start: ");
+    say_place(page, t);
+    let end = follow(page, g, t, j);
+    say_marking(page, end.track.marking);
+    if end.refused {
+        return Answer::Refused;
+    }
+    Answer::Answered
 }
 
-pub fn track(g: &Job, m: Marking, j: &[u8]) {
+pub fn track(page: &mut Page, g: &Job, m: Marking, j: &[u8]) -> Answer {
     let w = journal::walk_at(j, 0).said;
     if let Walked::Refused(r) = w {
-        say_refused(r);
-        return;
+        return say_refused(page, r);
     }
     let o = tracker::start(g, m);
     match o {
-        Tracked::At(start) => say_tracked(g, start, j),
-        Tracked::Stays(r, _) => say_refused(r),
-        Tracked::Refused(r) => say_refused(r),
+        Tracked::At(start) => say_tracked(page, g, start, j),
+        Tracked::Stays(r, _) => say_refused(page, r),
+        Tracked::Refused(r) => say_refused(page, r),
     }
 }

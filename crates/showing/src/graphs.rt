@@ -1,5 +1,6 @@
 // A graph, line by line.
 ghost use Prim.Native.Nat.{_≤_};
+use lines::page::Page;
 use lines::say::say;
 use lines::say::say_count;
 use lines::say::say_number;
@@ -13,10 +14,10 @@ use rules::INCLUDES;
 use rules::Job;
 use rules::RESPONSES;
 
-pub fn say_counts(g: &Job) {
-    say_count(b"steps", g[0]);
-    say_count(b"people", g[1]);
-    say_count(b"roles", g[2]);
+pub fn say_counts(page: &mut Page, g: &Job) {
+    say_count(page, b"steps", g[0]);
+    say_count(page, b"people", g[1]);
+    say_count(page, b"roles", g[2]);
 }
 
 // How many steps a row names: no more than there are bits in a word.
@@ -27,139 +28,139 @@ fn named(x: u64) -> u64
 }
 
 // The four tables of arrows stand one behind the other.
-pub fn say_arrow_count(g: &Job) {
+pub fn say_arrow_count(page: &mut Page, g: &Job) {
     let mut total = 0;
     let mut i = CONDITIONS;
     while i < ALLOWS {
         total += named(g[i]);
         i += 1;
     }
-    say_count(b"arrows", total);
+    say_count(page, b"arrows", total);
 }
 
-fn say_person(p: u64, roles: u64) {
-    say(b"person ");
-    say_number(p);
-    say(b": roles ");
-    say_set(roles);
-    say(b"\n");
+fn say_person(page: &mut Page, p: u64, roles: u64) {
+    say(page, b"person ");
+    say_number(page, p);
+    say(page, b": roles ");
+    say_set(page, roles);
+    say(page, b"\n");
 }
 
-pub fn say_people(g: &Job) {
+pub fn say_people(page: &mut Page, g: &Job) {
     let mut p = 0;
     while p < 16 {
         if (p as u64) < g[1] {
-            say_person(p as u64, g[HOLDS + p]);
+            say_person(page, p as u64, g[HOLDS + p]);
         }
         p += 1;
     }
 }
 
-fn say_step(s: u8, roles: u64, m: Marking) {
+fn say_step(page: &mut Page, s: u8, roles: u64, m: Marking) {
     if 63 < s {
         return;
     }
-    say(b"step ");
-    say_number(s as u64);
-    say(b": roles ");
-    say_set(roles);
+    say(page, b"step ");
+    say_number(page, s as u64);
+    say(page, b": roles ");
+    say_set(page, roles);
     if sets::has(m.included, s) {
-        say(b", included");
+        say(page, b", included");
     } else {
-        say(b", excluded");
+        say(page, b", excluded");
     }
     if sets::has(m.done, s) {
-        say(b", done");
+        say(page, b", done");
     }
     if sets::has(m.due, s) {
-        say(b", due");
+        say(page, b", due");
     }
-    say(b"\n");
+    say(page, b"\n");
 }
 
-pub fn say_steps(g: &Job, m: Marking) {
+pub fn say_steps(page: &mut Page, g: &Job, m: Marking) {
     let mut s = 0;
     while s < 64 {
         if (s as u64) < g[0] {
-            say_step(s as u8, g[ALLOWS + s], m);
+            say_step(page, s as u8, g[ALLOWS + s], m);
         }
         s += 1;
     }
 }
 
-fn say_pair(kind: &[u8], a: u64, b: u64) {
-    say(kind);
-    say(b" ");
-    say_number(a);
-    say(b" ");
-    say_number(b);
+fn say_pair(page: &mut Page, kind: &[u8], a: u64, b: u64) {
+    say(page, kind);
+    say(page, b" ");
+    say_number(page, a);
+    say(page, b" ");
+    say_number(page, b);
 }
 
-fn say_doing(a: u64, does: &[u8], b: u64, end: &[u8]) {
-    say(b": doing step ");
-    say_number(a);
-    say(does);
-    say_number(b);
-    say(end);
+fn say_doing(page: &mut Page, a: u64, does: &[u8], b: u64, end: &[u8]) {
+    say(page, b": doing step ");
+    say_number(page, a);
+    say(page, does);
+    say_number(page, b);
+    say(page, end);
 }
 
-fn say_condition(a: u64, b: u64) {
-    say_pair(b"condition", a, b);
-    say(b": if step ");
-    say_number(a);
-    say(b" is included, it must have been done before step ");
-    say_number(b);
-    say(b"\n");
+fn say_condition(page: &mut Page, a: u64, b: u64) {
+    say_pair(page, b"condition", a, b);
+    say(page, b": if step ");
+    say_number(page, a);
+    say(page, b" is included, it must have been done before step ");
+    say_number(page, b);
+    say(page, b"\n");
 }
 
 // The arrow from a to b, of the kind with that number in the sheet.
-fn say_arrow(kind: u8, a: u64, b: u64) {
+fn say_arrow(page: &mut Page, kind: u8, a: u64, b: u64) {
     match kind {
-        0 => say_condition(a, b),
+        0 => say_condition(page, a, b),
         1 => {
-            say_pair(b"response", a, b);
-            say_doing(a, b" makes step ", b, b" due\n");
+            say_pair(page, b"response", a, b);
+            say_doing(page, a, b" makes step ", b, b" due\n");
         }
         2 => {
-            say_pair(b"include", a, b);
-            say_doing(a, b" includes step ", b, b"\n");
+            say_pair(page, b"include", a, b);
+            say_doing(page, a, b" includes step ", b, b"\n");
         }
         _ => {
-            say_pair(b"exclude", a, b);
-            say_doing(a, b" excludes step ", b, b"\n");
+            say_pair(page, b"exclude", a, b);
+            say_doing(page, a, b" excludes step ", b, b"\n");
         }
     }
 }
 
 // The arrows of a kind from a to the steps of x.
-fn say_row(kind: u8, a: u64, x: u64) {
+fn say_row(page: &mut Page, kind: u8, a: u64, x: u64) {
     let mut b = 0;
     while b < 64 {
         if sets::has(x, b) {
-            say_arrow(kind, a, b as u64);
+            say_arrow(page, kind, a, b as u64);
         }
         b += 1;
     }
 }
 
-fn say_kind(kind: u8, rows: &[u64]) {
+fn say_kind(page: &mut Page, kind: u8, rows: &[u64]) {
     let mut a = 0;
     while a < rows.len() {
-        say_row(kind, a as u64, rows[a]);
+        say_row(page, kind, a as u64, rows[a]);
         a += 1;
     }
 }
 
 // A graph holds a condition with the step that waits; the line has it from the step that is waited for.
-pub fn say_arrows(g: &Job) {
+pub fn say_arrows(page: &mut Page, g: &Job) {
     let steps = g[0];
     if 64 < steps {
         return;
     }
     let w = &g[..];
     let turned = arrows::turned(steps as u8, &w[CONDITIONS..RESPONSES]);
-    say_kind(0, &turned);
-    say_kind(1, &w[RESPONSES..INCLUDES]);
-    say_kind(2, &w[INCLUDES..EXCLUDES]);
-    say_kind(3, &w[EXCLUDES..ALLOWS]);
+    say_kind(page, 0, &turned);
+    say_kind(page, 1, &w[RESPONSES..INCLUDES]);
+    say_kind(page, 2, &w[INCLUDES..EXCLUDES]);
+    say_kind(page, 3, &w[EXCLUDES..ALLOWS]);
 }

@@ -7,39 +7,44 @@ use crate::graphs::say_steps;
 use files::writing::Target;
 use files::writing::front;
 use files::writing::store_to;
+use lines::page::Page;
 use lines::refusals::say_refused;
 use lines::say::say;
 use lines::say::say_wrote;
 use lines::states::say_ending;
+use lines::status::Answer;
 use moves::Marking;
 use rules::Job;
 use sheet::Written;
 
-pub fn check(g: &Job) {
-    say(b"sheet: ok\n");
-    say_counts(g);
-    say_arrow_count(g);
+pub fn check(page: &mut Page, g: &Job) -> Answer {
+    say(page, b"sheet: ok\n");
+    say_counts(page, g);
+    say_arrow_count(page, g);
+    Answer::Answered
 }
 
-pub fn show(g: &Job, m: Marking) {
-    say_counts(g);
-    say_people(g);
-    say_steps(g, m);
-    say_arrows(g);
-    say_arrow_count(g);
-    say_ending(rules::finished(g, m), m);
+pub fn show(page: &mut Page, g: &Job, m: Marking) -> Answer {
+    say_counts(page, g);
+    say_people(page, g);
+    say_steps(page, g, m);
+    say_arrows(page, g);
+    say_arrow_count(page, g);
+    say_ending(page, rules::finished(g, m), m)
 }
 
 // The sheet of what was read.
-pub fn write(g: &Job, m: Marking, t: Target) {
+pub fn write(page: &mut Page, g: &Job, m: Marking, t: Target) -> Answer {
     let mut room = io::large_buffer();
     let w = sheet::write(g, m, &mut room);
     match w {
         Written::Length(n) => {
-            if store_to(t, front(&room, n)) {
-                say_wrote(n as u64);
+            if !store_to(t, front(&room, n)) {
+                return Answer::Failed;
             }
+            say_wrote(page, n as u64);
+            Answer::Answered
         }
-        Written::Refused(r) => say_refused(r),
+        Written::Refused(r) => say_refused(page, r),
     }
 }

@@ -1,6 +1,7 @@
 // The small sample job: after a reboot the order of the sensors is checked before anything is published.
 //
 // Steps: 0 reboot, 1 order check, 2 publish. Roles: 0 climber, 1 desk. Person 0 is a climber, person 1 sits at the desk.
+use lines::page::Page;
 use lines::say::say;
 use moves::Marking;
 use rules::ALLOWS;
@@ -44,17 +45,17 @@ pub fn job() -> Job {
     g
 }
 
-pub fn say_step_name(s: u8) {
+pub fn say_step_name(page: &mut Page, s: u8) {
     match s {
-        0 => say(b"reboot"),
-        1 => say(b"order check"),
-        _ => say(b"publish"),
+        0 => say(page, b"reboot"),
+        1 => say(page, b"order check"),
+        _ => say(page, b"publish"),
     }
 }
 
-pub fn say_role_name(r: u8) {
+pub fn say_role_name(page: &mut Page, r: u8) {
     match r {
-        0 => say(b"climber"),
-        _ => say(b"desk"),
+        0 => say(page, b"climber"),
+        _ => say(page, b"desk"),
     }
 }

@@ -7,6 +7,7 @@ use crate::job::START;
 use files::complaints::complain_error;
 use files::writing::front;
 use files::writing::store;
+use lines::page::Page;
 use lines::refusals::say_refused;
 use lines::say::say;
 use lines::say::say_number;
@@ -29,7 +30,7 @@ fn add(text: &[u8], room: &mut [u8], at: usize) -> usize {
 }
 
 // Was the file written into the folder?
-fn store_part(folder: &[u8], name: &[u8], force: bool, bytes: &[u8]) -> bool {
+fn store_part(page: &mut Page, folder: &[u8], name: &[u8], force: bool, bytes: &[u8]) -> bool {
     let mut path = [0u8; 8192];
     let a = add(folder, &mut path, 0);
     let b = add(b"/", &mut path, a);
@@ -37,46 +38,46 @@ fn store_part(folder: &[u8], name: &[u8], force: bool, bytes: &[u8]) -> bool {
     if !store(front(&path, c), force, bytes) {
         return false;
     }
-    say(b"wrote: ");
-    say(name);
-    say(b", ");
-    say_number(bytes.len() as u64);
-    say(b" bytes\n");
+    say(page, b"wrote: ");
+    say(page, name);
+    say(page, b", ");
+    say_number(page, bytes.len() as u64);
+    say(page, b" bytes\n");
     true
 }
 
-fn store_sheet(g: &Job, folder: &[u8], force: bool) -> bool {
+fn store_sheet(page: &mut Page, g: &Job, folder: &[u8], force: bool) -> bool {
     let mut room = [0u8; 128];
     let o = sheet::write(g, START, &mut room);
     match o {
-        Written::Length(n) => store_part(folder, b"job.sheet", force, front(&room, n)),
+        Written::Length(n) => store_part(page, folder, b"job.sheet", force, front(&room, n)),
         Written::Refused(r) => {
-            say_refused(r);
+            say_refused(page, r);
             false
         }
     }
 }
 
-fn store_marking(folder: &[u8], force: bool) -> bool {
+fn store_marking(page: &mut Page, folder: &[u8], force: bool) -> bool {
     let mut room = [0u8; 24];
     bodies::write_marking(START, &mut room, 0);
-    store_part(folder, b"start.marking", force, &room)
+    store_part(page, folder, b"start.marking", force, &room)
 }
 
-fn store_journals(folder: &[u8], force: bool) -> bool {
-    if !store_part(folder, b"reboot.journal", force, &REBOOT) {
+fn store_journals(page: &mut Page, folder: &[u8], force: bool) -> bool {
+    if !store_part(page, folder, b"reboot.journal", force, &REBOOT) {
         return false;
     }
-    if !store_part(folder, b"check.journal", force, &CHECK) {
+    if !store_part(page, folder, b"check.journal", force, &CHECK) {
         return false;
     }
-    if !store_part(folder, b"publish.journal", force, &PUBLISH) {
+    if !store_part(page, folder, b"publish.journal", force, &PUBLISH) {
         return false;
     }
-    if !store_part(folder, b"day.journal", force, &DAY) {
+    if !store_part(page, folder, b"day.journal", force, &DAY) {
         return false;
     }
-    store_part(folder, b"empty.journal", force, b"")
+    store_part(page, folder, b"empty.journal", force, b"")
 }
 
 // Is the folder there, or could it be made?
@@ -92,15 +93,15 @@ fn has_folder(folder: &[u8]) -> bool {
 }
 
 // Are all the files there? Else it was complained of.
-pub fn store_parts(g: &Job, folder: &[u8], force: bool) -> bool {
+pub fn store_parts(page: &mut Page, g: &Job, folder: &[u8], force: bool) -> bool {
     if !has_folder(folder) {
         return false;
     }
-    if !store_sheet(g, folder, force) {
+    if !store_sheet(page, g, folder, force) {
         return false;
     }
-    if !store_marking(folder, force) {
+    if !store_marking(page, folder, force) {
         return false;
     }
-    store_journals(folder, force)
+    store_journals(page, folder, force)
 }

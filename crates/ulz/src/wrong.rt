@@ -6,7 +6,9 @@ use files::complaints::complain_name;
 use files::complaints::complain_of;
 use guide::commands::Command;
 use guide::commands::Shape;
-use guide::usage::put_use;
+use guide::usage::say_use;
+use lines::page::complain_with;
+use lines::say::say;
 
 // The place of operand k, or 0.
 pub fn place(c: Call, k: usize) -> usize {
@@ -53,9 +55,11 @@ fn complain_option(i: usize) {
 }
 
 fn complain_use(c: Command) {
-    complain(b"ulz: usage: ");
-    put_use(libc::STDERR_FILENO, c);
-    complain(b"\n");
+    let mut page = lines::page::blank();
+    say(&mut page, b"ulz: usage: ");
+    say_use(&mut page, c);
+    say(&mut page, b"\n");
+    complain_with(&mut page);
 }
 
 // Is no file written, though --force says that it may be written over?

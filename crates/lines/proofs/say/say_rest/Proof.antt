@@ -5,10 +5,10 @@ use Rattle.lines.proofs.say.say_rest.Statement.{statement}
 use Rattle.lines.proofs.say.say_rest.Tie as tie
 
 abbrev Inv-loop : tie.InvT-loop
-Inv-loop x low s₀ s = s ≤ 64
+Inv-loop page₀ x low s₀ page s = s ≤ 64
 
 abbrev μ-loop : tie.MeasureT-loop
-μ-loop x low s₀ s = 64 - s
+μ-loop page₀ x low s₀ page s = 64 - s
 
 loop-holds : tie.Need-loop-holds Inv-loop μ-loop
 loop-holds c = search needs

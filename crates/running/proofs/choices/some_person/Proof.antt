@@ -5,10 +5,10 @@ use Rattle.running.proofs.choices.some_person.Statement.{statement}
 use Rattle.running.proofs.choices.some_person.Tie as tie
 
 abbrev Inv-loop : tie.InvT-loop
-Inv-loop g m s found₀ p₀ found p = p ≤ 16
+Inv-loop page₀ g m s found₀ p₀ page found p = p ≤ 16
 
 abbrev μ-loop : tie.MeasureT-loop
-μ-loop g m s found₀ p₀ found p = 16 - p
+μ-loop page₀ g m s found₀ p₀ page found p = 16 - p
 
 loop-holds : tie.Need-loop-holds Inv-loop μ-loop
 loop-holds c = search needs

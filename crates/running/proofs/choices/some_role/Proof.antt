@@ -5,10 +5,10 @@ use Rattle.running.proofs.choices.some_role.Statement.{statement}
 use Rattle.running.proofs.choices.some_role.Tie as tie
 
 abbrev Inv-loop : tie.InvT-loop
-Inv-loop g m s p found₀ r₀ found r = r ≤ 16
+Inv-loop page₀ g m s p found₀ r₀ page found r = r ≤ 16
 
 abbrev μ-loop : tie.MeasureT-loop
-μ-loop g m s p found₀ r₀ found r = 16 - r
+μ-loop page₀ g m s p found₀ r₀ page found r = 16 - r
 
 loop-holds : tie.Need-loop-holds Inv-loop μ-loop
 loop-holds c = search needs

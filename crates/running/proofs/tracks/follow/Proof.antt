@@ -5,10 +5,13 @@ use Rattle.running.proofs.tracks.follow.Statement.{statement}
 use Rattle.running.proofs.tracks.follow.Tie as tie
 
 abbrev Inv-loop : tie.InvT-loop
-Inv-loop g j at₀ k₀ at k = k ≤ 21846
+Inv-loop page₀ g j at₀ k₀ page at k = k ≤ 21846
 
 abbrev μ-loop : tie.MeasureT-loop
-μ-loop g j at₀ k₀ at k = 21846 - k
+μ-loop page₀ g j at₀ k₀ page at k = 21846 - k
+
+goes-requires : tie.Need-goes-requires Inv-loop μ-loop
+goes-requires c κs = search needs
 
 loop-holds : tie.Need-loop-holds Inv-loop μ-loop
 loop-holds c = search needs
@@ -37,6 +40,7 @@ follow-spec =
     (tie.spec
     Inv-loop
     μ-loop
+    goes-requires
     loop-holds
     onward-requires
     returns

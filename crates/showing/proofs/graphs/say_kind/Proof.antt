@@ -6,10 +6,10 @@ use Rattle.showing.proofs.graphs.say_kind.Statement.{statement}
 use Rattle.showing.proofs.graphs.say_kind.Tie as tie
 
 abbrev Inv-loop : tie.InvT-loop
-Inv-loop kind rows a₀ a = a ≤ length rows
+Inv-loop page₀ kind rows a₀ page a = a ≤ length rows
 
 abbrev μ-loop : tie.MeasureT-loop
-μ-loop kind rows a₀ a = length rows - a
+μ-loop page₀ kind rows a₀ page a = length rows - a
 
 loop-holds : tie.Need-loop-holds Inv-loop μ-loop
 loop-holds c = search needs

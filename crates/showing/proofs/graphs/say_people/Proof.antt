@@ -5,10 +5,10 @@ use Rattle.showing.proofs.graphs.say_people.Statement.{statement}
 use Rattle.showing.proofs.graphs.say_people.Tie as tie
 
 abbrev Inv-loop : tie.InvT-loop
-Inv-loop g p₀ p = p ≤ 16
+Inv-loop page₀ g p₀ page p = p ≤ 16
 
 abbrev μ-loop : tie.MeasureT-loop
-μ-loop g p₀ p = 16 - p
+μ-loop page₀ g p₀ page p = 16 - p
 
 loop-holds : tie.Need-loop-holds Inv-loop μ-loop
 loop-holds c = search needs

@@ -5,10 +5,10 @@ use Rattle.showing.proofs.graphs.say_row.Statement.{statement}
 use Rattle.showing.proofs.graphs.say_row.Tie as tie
 
 abbrev Inv-loop : tie.InvT-loop
-Inv-loop kind a x b₀ b = b ≤ 64
+Inv-loop page₀ kind a x b₀ page b = b ≤ 64
 
 abbrev μ-loop : tie.MeasureT-loop
-μ-loop kind a x b₀ b = 64 - b
+μ-loop page₀ kind a x b₀ page b = 64 - b
 
 loop-holds : tie.Need-loop-holds Inv-loop μ-loop
 loop-holds c = search needs

@@ -1,5 +1,4 @@
-// The program: reads the files that its arguments name, asks the floors below, and prints their answers. Its exit status is always 0; the
-// script beside crates/ gives 1 where a line says `refused: `, and 2 where something stands on standard error.
+// The program: reads the files that its arguments name, asks the floors below, prints their answers, and answers its exit status.
 use answers::Task;
 use answers::give;
 use files::arguments::Call;
@@ -12,6 +11,8 @@ use guide::commands::Command;
 use guide::commands::Shape;
 use guide::commands::named;
 use guide::commands::shape_of;
+use lines::page::Page;
+use lines::status::Answer;
 use wrong::complain_long;
 use wrong::complain_unknown;
 use wrong::is_wrong;
@@ -20,26 +21,26 @@ use wrong::place;
 mod answers;
 mod wrong;
 
-fn read_and_give(t: Task) {
+fn read_and_give(page: &mut Page, t: Task) -> Answer {
     let mut first = io::large_buffer();
     let a = fetch(t.first, &mut first);
     if a.failed {
-        return;
+        return Answer::Failed;
     }
     let mut second = io::large_buffer();
     let b = fetch(t.second, &mut second);
     if b.failed {
-        return;
+        return Answer::Failed;
     }
     let mut third = io::large_buffer();
     let c = fetch(t.third, &mut third);
     if c.failed {
-        return;
+        return Answer::Failed;
     }
     let x = a.length;
     let y = b.length;
     let z = c.length;
-    give(t, &first[..x], &second[..y], &third[..z]);
+    give(page, t, &first[..x], &second[..y], &third[..z])
 }
 
 // The place of operand k, if it is an input.
@@ -89,37 +90,46 @@ fn number_in(call: Call) -> Number {
     o
 }
 
-fn obey(c: Command, call: Call) {
+fn obey(page: &mut Page, c: Command, call: Call) -> Answer {
     let s = shape_of(c);
     if is_wrong(c, s, call) {
-        return;
+        return Answer::Failed;
     }
     let t = task_of(c, s, call);
     if !s.numbered {
-        read_and_give(t);
-        return;
+        return read_and_give(page, t);
     }
     let n = number_in(call);
-    if let Number::Is(number) = n {
-        read_and_give(numbered(t, number));
+    match n {
+        Number::Is(number) => read_and_give(page, numbered(t, number)),
+        Number::None => Answer::Failed,
     }
 }
 
-fn main() {
+fn answer(page: &mut Page) -> Answer {
     if os::arg_count() < 2 {
         complain(b"ulz: no command; 'ulz help' lists them\n");
-        return;
+        return Answer::Failed;
     }
     let mut word = io::buffer();
     let n = os::arg(1, &mut word);
     if !files::arguments::is_whole(n) {
         complain_long();
-        return;
+        return Answer::Failed;
     }
     let c = named(&word[..n]);
     if let Command::Unknown = c {
         complain_unknown(&word[..n]);
-        return;
+        return Answer::Failed;
     }
-    obey(c, files::arguments::called());
+    obey(page, c, files::arguments::called())
+}
+
+// What `main` calls and returns. The status is told last, when it is known whether all lines were written.
+#[no_mangle]
+pub extern "C" fn ulz_program() -> i32 {
+    let mut page = lines::page::blank();
+    let a = answer(&mut page);
+    let whole = lines::page::flush(&mut page);
+    lines::status::status(false, a, whole) as i32
 }
