@@ -9,7 +9,7 @@ use Rattle.moves.specs.First.{first}
 use Rattle.records.specs.declared.Record.{Record}
 use Rattle.records.specs.declared.Recorded.{Recorded}
 use Rattle.records.specs.Records.{setsOf}
-use Rattle.spelling.specs.Bytes.{flag, recordAt, recordBytes, writeLines}
+use Rattle.spelling.specs.Bytes.{flag, recordAt, recordBytes, toBytesLines}
 
 -- what stands in for bytes or words that spell no record: never is on beside a set, so that it is well-formed for no n
 abbrev pub spoilt : Record
@@ -41,7 +41,7 @@ recordWords r = flag (r .never) ∷ setsOf r
 
 -- what is against spelling the record of nine words into the room
 abbrev pub spellVerdict : ℕ → List ℕ → List ℕ → Verdict
-spellVerdict n words room = first (writeLines n (recordOf words) room)
+spellVerdict n words room = first (toBytesLines n (recordOf words) room)
 
 -- the record, or the memory as it was
 unfoldable pub bytesOut : Recorded → List ℕ → List ℕ

@@ -8,8 +8,8 @@ use Rattle.moves.specs.declared.Marking.{Marking}
 use Rattle.moves.specs.Move.{numberOfMove}
 use Rattle.kept.specs.declared.Kept.{Kept}
 
-abbrev pub markingIn : List ℕ → Marking
-markingIn words = record { done = getD words 0 0; due = getD words 1 0; included = getD words 2 0 }
+abbrev pub markingOfWords : List ℕ → Marking
+markingOfWords words = record { done = getD words 0 0; due = getD words 1 0; included = getD words 2 0 }
 
 abbrev pub markingWords : Marking → List ℕ
 markingWords m = m .done ∷ m .due ∷ m .included ∷ []

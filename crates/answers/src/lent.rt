@@ -3,7 +3,7 @@ ghost use mathlib.Core.Path.{_≡_};
 ghost use Rattle.moves.specs.First.{numberOfVerdict};
 ghost use Rattle.moves.specs.Move.{numberOfMove, stepOfMove};
 ghost use Rattle.sheet.specs.Sheet.{ifClear};
-ghost use Rattle.answers.specs.Lent.{markingIn, markingWords, keptOut};
+ghost use Rattle.answers.specs.Lent.{markingOfWords, markingWords, keptOut};
 use crate::Kept;
 use crate::told::moved;
 use crate::told::said;
@@ -11,7 +11,7 @@ use moves::Marking;
 use moves::Verdict;
 
 pub fn marking(words: &[u64; 3]) -> Marking
-    ensures { λ r. ⌜ r ≡ markingIn (now (words .entry)) ⌝ }
+    ensures { λ r. ⌜ r ≡ markingOfWords (now (words .entry)) ⌝ }
 {
     Marking {
         done: words[0],

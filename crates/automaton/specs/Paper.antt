@@ -18,7 +18,7 @@ use Rattle.tracker.specs.declared.Track.{Track}
 
 -- ---- the paper's signs
 
-infix 50 _∈_
+infix 50 _∈?_
 -- {e ∈ E | p e}, of the n events
 abbrev pub those : ℕ → (ℕ → Bool) → ℕ
 those n p = gather n (λ e. cond (p e) (single e) 0)
@@ -28,9 +28,9 @@ abbrev pub min : ℕ → ℕ → Option ℕ
 min n x = cond (empty x) none (some (lowest n x))
 
 -- min(E′) ∈ X: where there is no min(E′) it is in no set
-unfoldable pub _∈_ : Option ℕ → ℕ → Bool
-none ∈ x = false
-some e ∈ x = has x e
+unfoldable pub _∈?_ : Option ℕ → ℕ → Bool
+none ∈? x = false
+some e ∈? x = has x e
 
 -- rank(min(E′)), asked for only where min(E′) is in some set
 unfoldable pub rankOfMin : Option ℕ → ℕ
@@ -76,11 +76,11 @@ module _ (n : ℕ) (M′ M″ : Marking) (i e : ℕ) where
 
   -- (iii) (b) min(Mᵣ) ∈ (In′ ∩ Re′ \ (In″ ∩ Re″)) ∪ {e}
   abbrev pub iii-b : Bool
-  iii-b = min n Mᵣ ∈ gone
+  iii-b = min n Mᵣ ∈? gone
 
   -- (iii) (c) Mᵣ = ∅ and min(In′ ∩ Re′) ∈ (In′ ∩ Re′ \ (In″ ∩ Re″)) ∪ {e}
   abbrev pub iii-c : Bool
-  iii-c = empty Mᵣ && (min n (In M′ ∩ Re M′) ∈ gone)
+  iii-c = empty Mᵣ && (min n (In M′ ∩ Re M′) ∈? gone)
 
   -- (iii) j′ = 1 if (a) or (b) or (c), otherwise j′ = 0
   abbrev pub j′ : Bool

@@ -24,7 +24,7 @@ use Rattle.rules.specs.Entries.{moved-after}
 use Rattle.tracker.specs.declared.Track.{Track}
 use Rattle.tracker.specs.declared.Tracked.{Tracked}
 use Rattle.tracker.specs.Tracker.{isRank, begin, rest, pending, above, pool, meets, served, trackAfter, startLines, theStart, theIdle, theStep}
-use Rattle.automaton.specs.Paper.{State, Initial, Tau, Transition, those, min, _∈_, rankOfMin, j′, i′}
+use Rattle.automaton.specs.Paper.{State, Initial, Tau, Transition, those, min, _∈?_, rankOfMin, j′, i′}
 use Rattle.tracker.specs.Laws.{above-members, sound-inside, start-clear, idle-clear, idle-at, Stepped, step-at, at-step, rank-is}
 use Rattle.automaton.specs.States.{start-is}
 
@@ -60,10 +60,10 @@ module _ (n p q e x : ℕ) (most : n ≤ 64) (small : x < 2 ^ n) (some-x : empty
   lowest-in : has p (lowest 64 x) ≡ true
   lowest-in = part (lowest 64 x) (ap (has x) same-lowest ∙ lowest-has n x small (eqb-false x 0 some-x))
 
-  min-gone : (min n x ∈ union (minus p q) (single e)) ≡ meets (lowest 64 x) e q
-  unfolding _∈_
+  min-gone : (min n x ∈? union (minus p q) (single e)) ≡ meets (lowest 64 x) e q
+  unfolding _∈?_
   min-gone =
-      ap (λ (o : Option ℕ). o ∈ union (minus p q) (single e)) min-is
+      ap (λ (o : Option ℕ). o ∈? union (minus p q) (single e)) min-is
       ∙ has-union (minus p q) (single e) (lowest 64 x)
       ∙ ap₂ _||_ (has-minus p q (lowest 64 x) ∙ ap (λ (b : Bool). b && not (has q (lowest 64 x))) lowest-in)
       (has-single e (lowest 64 x) ∙ eqb-comm e (lowest 64 x))
@@ -99,26 +99,26 @@ left e p q = union (minus p q) (single e)
 
 -- j′ and i′, where h is Mᵣ
 abbrev flagged : ℕ → ℕ → ℕ → ℕ → ℕ → Bool
-flagged n e p q h = empty q || (min n h ∈ left e p q) || (empty h && (min n p ∈ left e p q))
+flagged n e p q h = empty q || (min n h ∈? left e p q) || (empty h && (min n p ∈? left e p q))
 
 abbrev ranked : ℕ → ℕ → ℕ → ℕ → ℕ → ℕ → ℕ
-ranked n i e p q h = cond (min n h ∈ left e p q) (rankOfMin (min n h)) (cond (empty h && (min n p ∈ left e p q)) (rankOfMin (min n p)) i)
+ranked n i e p q h = cond (min n h ∈? left e p q) (rankOfMin (min n h)) (cond (empty h && (min n p ∈? left e p q)) (rankOfMin (min n p)) i)
 
 module _ (n i e p q : ℕ) (most : n ≤ 64) (small : p < 2 ^ n) where
   abbrev Same : Type 0
   Same = (cond (served i p q e) true (empty q) ≡ flagged n e p q (above i p))
       × (cond (served i p q e) (lowest 64 (pool i p) + 1) i ≡ ranked n i e p q (above i p))
 
-  by-b : (min n (above i p) ∈ left e p q) ≡ served i p q e → (empty (above i p) && (min n p ∈ left e p q)) ≡ false
+  by-b : (min n (above i p) ∈? left e p q) ≡ served i p q e → (empty (above i p) && (min n p ∈? left e p q)) ≡ false
       → rankOfMin (min n (above i p)) ≡ lowest 64 (pool i p) + 1 → Same
   by-b = agree-b _ _ _ _ _ _ _ _
 
-  by-c : (min n (above i p) ∈ left e p q) ≡ false → (empty (above i p) && (min n p ∈ left e p q)) ≡ served i p q e
+  by-c : (min n (above i p) ∈? left e p q) ≡ false → (empty (above i p) && (min n p ∈? left e p q)) ≡ served i p q e
       → (served i p q e ≡ true → rankOfMin (min n p) ≡ lowest 64 (pool i p) + 1) → Same
   by-c = agree-c _ _ _ _ _ _ _ _
 
   agree : Same
-  unfolding _∈_
+  unfolding _∈?_
   agree = go (empty (above i p)) refl (empty p) refl
     where
       part : (s : ℕ) → has (above i p) s ≡ true → has p s ≡ true
@@ -132,7 +132,7 @@ module _ (n i e p q : ℕ) (most : n ≤ 64) (small : p < 2 ^ n) where
           (min-rank n p q e (above i p) most less eh part ∙ simp eh)
       go true eh false ek =
           by-c (simp eh)
-          (ap (λ (b : Bool). b && (min n p ∈ left e p q)) eh ∙ min-gone n p q e p most small ek (λ s k. k) ∙ simp (eh, ek))
+          (ap (λ (b : Bool). b && (min n p ∈? left e p q)) eh ∙ min-gone n p q e p most small ek (λ s k. k) ∙ simp (eh, ek))
           (λ m. min-rank n p q e p most small ek (λ s k. k) ∙ simp eh)
       go true eh true ek = by-c (simp eh) (simp (eh, ek)) (λ m. absurd (true≢false (sym m ∙ simp (eh, ek))))
 

@@ -17,14 +17,15 @@ use Rattle.moves.specs.declared.Verdict.{Verdict}
 use Rattle.moves.specs.declared.Refusal.{Refusal}
 use Rattle.moves.specs.First.{first, numberOfVerdict, numberOf, stepOf}
 use Rattle.moves.specs.Move.{isFinished}
-use Rattle.rules.specs.Answers.{known, entryLines}
+use Rattle.rules.specs.Answers.{entryKnown, entryLines}
 use Rattle.moves.specs.Given.{ascends, clear-head, clear-front, clear-back}
 use Rattle.moves.specs.Inside.{Inside, fits-inside}
 use Rattle.rules.specs.Sound.{Sound, clear-sound, after-inside}
 use Rattle.rules.specs.Entries.{moved-clear, moved-after}
 use Rattle.tracker.specs.declared.Track.{Track}
 use Rattle.tracker.specs.declared.Tracked.{Tracked}
-use Rattle.tracker.specs.Tracker.{pending, above, pool, meets, served, begin, rest, startLines, idleLines, stepLines, trackedOf, theStart, theIdle, theStep, numberOfTracked, stepOfTracked}
+use Rattle.tracker.specs.Tracker.{pending, above, pool, meets, served, begin, rest, startLines, idleLines, stepLines}
+use Rattle.tracker.specs.Tracker.{trackedOf, theStart, theIdle, theStep, numberOfTracked, stepOfTracked}
 use Rattle.automaton.specs.Paper.{State}
 use Rattle.tracker.specs.Laws.{clear-graph, clear-fits, rank-some, rank-most, rank-is, start-at, Idled, idle-at, Stepped, step-at}
 
@@ -104,7 +105,7 @@ step-state g t e u q =
     let front : first (startLines g m) ≡ Verdict.Clear = clear-front (startLines g m) (entryLines g m e) clear in
     let sound : Sound g = clear-sound g (clear-graph g m front) in
     let within : Inside n m = fits-inside n m (clear-fits g m front) in
-    let is : known g e ≡ true = not-false (known g e) (clear-head _ _ (clear-back (startLines g m) (entryLines g m e) clear)) in
+    let is : entryKnown g e ≡ true = not-false (entryKnown g e) (clear-head _ _ (clear-back (startLines g m) (entryLines g m e) clear)) in
     let low : e .step .0 < n =
     ltb-true (e .step .0) n
     (and-right (ltb (e .person) (g .people)) (ltb (e .step .0) n)

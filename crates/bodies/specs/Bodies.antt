@@ -18,7 +18,7 @@ countsBody steps people roles = bytes 1 steps ++ (bytes 1 people ++ bytes 1 role
 abbrev pub countsIn : List ℕ → Counts
 countsIn body = record { steps = getD body 0 0; people = getD body 1 0; roles = getD body 2 0 }
 
--- ---- 2. First marking: Ex, Re, In, 8 bytes each. 24 bytes
+-- ---- 2. First marking: the sets done, due and included, in 8 bytes. 24 bytes
 
 abbrev pub markingBody : Marking → List ℕ
 markingBody m = bytes 8 (m .done) ++ (bytes 8 (m .due) ++ bytes 8 (m .included))

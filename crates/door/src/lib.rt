@@ -16,7 +16,7 @@ ghost use Rattle.reading.specs.Reading.{firstOf};
 ghost use Rattle.sheet.specs.Sheet.{readVerdict, ifClear, blockRead, theWritten, roomAfter, numberOfWritten, lengthOfWritten};
 ghost use Rattle.tracker.specs.Tracker.{theStart, theIdle, theStep, numberOfTracked, stepOfTracked};
 ghost use Rattle.answers.specs.Values.{finishedOfEnding, endedOfWalked, lengthOfSpelling};
-ghost use Rattle.answers.specs.Lent.{markingIn, markingWords, keptOut};
+ghost use Rattle.answers.specs.Lent.{markingOfWords, markingWords, keptOut};
 ghost use Rattle.answers.specs.Folded.{recordIn, recordOf, spellVerdict, bytesOut, wordsOut};
 ghost use Rattle.answers.specs.Tracks.{trackIn, noTrack, trackOfTracked};
 ghost use Rattle.answers.specs.Endless.{LapTold};
@@ -77,9 +77,9 @@ pub extern "C" fn ulz_finished(g: &Job, m: Marking) -> Ending
 // As `ulz_take`, and the marking is changed where it lies.
 #[no_mangle]
 pub extern "C" fn ulz_keep<'a, 'b>(g: &'a Job, m: &'b mut [u64; 3], e: Entry) -> Kept
-    ensures { λ r. ⌜ r .number ≡ numberOfMove (theKept (graphOf (now (g .entry))) (markingIn (now (m .entry))) e .answer) ⌝ }
-    ensures { λ r. ⌜ r .waiting ≡ stepOfMove (theKept (graphOf (now (g .entry))) (markingIn (now (m .entry))) e .answer) ⌝ }
-    ensures { λ r. ⌜ now (m .exit) ≡ keptOut (theKept (graphOf (now (g .entry))) (markingIn (now (m .entry))) e) (now (m .entry)) ⌝ }
+    ensures { λ r. ⌜ r .number ≡ numberOfMove (theKept (graphOf (now (g .entry))) (markingOfWords (now (m .entry))) e .answer) ⌝ }
+    ensures { λ r. ⌜ r .waiting ≡ stepOfMove (theKept (graphOf (now (g .entry))) (markingOfWords (now (m .entry))) e .answer) ⌝ }
+    ensures { λ r. ⌜ now (m .exit) ≡ keptOut (theKept (graphOf (now (g .entry))) (markingOfWords (now (m .entry))) e) (now (m .entry)) ⌝ }
 {
     let before = lent::marking(m);
     let k = kept::kept_after(before, g, e);

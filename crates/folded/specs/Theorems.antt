@@ -26,7 +26,7 @@ use Rattle.journal.specs.Journal.{entries, lengthFits}
 use Rattle.journal.specs.Run.{goOn, theRun}
 use Rattle.journal.specs.Inner.{runOn}
 use Rattle.journal.specs.Laws.{fits-threes, entries-append, run-graph, run-length, run-inside}
-use Rattle.runs.specs.Runs.{andThen, later, ended-passes, journals-append}
+use Rattle.runs.specs.Runs.{andThen, further, ended-passes, journals-append}
 use Rattle.records.specs.declared.Record.{Record}
 use Rattle.records.specs.declared.Recorded.{Recorded}
 use Rattle.records.specs.declared.Applied.{Applied}
@@ -172,10 +172,10 @@ restore-stopped g a b p m x k q ea within long stopped =
 
 -- running one journal after another is running the first, and then what restoring from its record gives, counted on
 pub restore-appends : (g : Graph) (a b : List ℕ) (p : Record) (m : Marking) → theFold g a ≡ Recorded.Made p → lengthFits (a ++ b) ≡ true
-    → theRun g m (a ++ b) ≡ andThen (theRun g m a) (λ x n. later n (theRestoring g p b m))
+    → theRun g m (a ++ b) ≡ andThen (theRun g m a) (λ x n. further n (theRestoring g p b m))
 unfolding andThen
 restore-appends g a b p m ea long = journals-append g m a b (folding g a p ea .long) long ∙ go (theRun g m a) refl
   where
-    go : (v : Ran) → theRun g m a ≡ v → andThen v (λ x n. later n (theRun g x b)) ≡ andThen v (λ x n. later n (theRestoring g p b m))
-    go (Ran.Ended x n) e = ap (later n) (sym (restore-ended g a b p m x n ea e))
+    go : (v : Ran) → theRun g m a ≡ v → andThen v (λ x n. further n (theRun g x b)) ≡ andThen v (λ x n. further n (theRestoring g p b m))
+    go (Ran.Ended x n) e = ap (further n) (sym (restore-ended g a b p m x n ea e))
     go (Ran.Stopped k r x) e = refl

@@ -6,7 +6,7 @@ use Rattle.sets.specs.Sets.{single, minus}
 use Rattle.rules.specs.Graph.{Graph}
 use Rattle.moves.specs.declared.inner.Row.{Row}
 use Rattle.moves.specs.declared.Entry.{Entry}
-use Rattle.rules.specs.Answers.{rowOf, known}
+use Rattle.rules.specs.Answers.{rowOf, entryKnown}
 use Rattle.moves.specs.Move.{personHolds, stepHas}
 use Rattle.records.specs.declared.Record.{Record}
 use Rattle.records.specs.Records.{identity, impossible, tidy, join}
@@ -33,7 +33,7 @@ stepRecord w s =
 
 -- some marking allows the entry: its numbers are known, its person has the role and so does its step
 abbrev pub possible : Graph → Entry → Bool
-possible g e = known g e && personHolds (rowMet g e) e && stepHas (rowMet g e) e
+possible g e = entryKnown g e && personHolds (rowMet g e) e && stepHas (rowMet g e) e
 
 -- what an entry needs and does
 unfoldable pub entryRecord : Graph → Entry → Record

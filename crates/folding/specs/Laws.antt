@@ -23,7 +23,7 @@ use Rattle.moves.specs.declared.Refusal.the-variants.{Unknown, NotHeld, NotOnSt
 use Rattle.moves.specs.declared.Verdict.{Verdict}
 use Rattle.moves.specs.declared.Move.{Move}
 use Rattle.moves.specs.First.{first}
-use Rattle.rules.specs.Answers.{known, entryMove, entryLines}
+use Rattle.rules.specs.Answers.{entryKnown, entryMove, entryLines}
 use Rattle.moves.specs.Move.{personHolds, stepHas, isIncluded, waitsFor, after, moveOf}
 use Rattle.rules.specs.Sound.{Sound}
 use Rattle.journal.specs.Journal.{entries, entryAt}
@@ -94,7 +94,7 @@ pub moved-if : (g : Graph) (e : Entry) (m : Marking) → movedTo (entryMove g m 
     (cond (isIncluded m e && empty (waitsFor (rowMet g e .conditions) m)) (some (after (rowMet g e) m (e .step .0))) none) none
 unfolding entryMove first
 moved-if g e m =
-    moved-by-lines (known g e) (personHolds (rowMet g e) e) (stepHas (rowMet g e) e) (isIncluded m e)
+    moved-by-lines (entryKnown g e) (personHolds (rowMet g e) e) (stepHas (rowMet g e) e) (isIncluded m e)
     (empty (waitsFor (rowMet g e .conditions) m)) _ m
     (after (rowMet g e) m (e .step .0))
 
@@ -115,7 +115,7 @@ and-none true = refl
 and-none false = refl
 
 -- an entry that names what there is not
-pub record-unknown : (g : Graph) (e : Entry) → known g e ≡ false → entryRecord g e ≡ impossible
+pub record-unknown : (g : Graph) (e : Entry) → entryKnown g e ≡ false → entryRecord g e ≡ impossible
 unfolding entryRecord
 record-unknown g e k = simp k
 
@@ -150,9 +150,9 @@ entry-bounded g e sound = go (possible g e) refl
 
     go : (p : Bool) → possible g e ≡ p → Bounded (g .steps) (cond p (stepRecord (rowMet g e) s) impossible)
     go true q =
-        let is : known g e ≡ true =
-        and-left (known g e) (personHolds (rowMet g e) e)
-        (and-left (known g e && personHolds (rowMet g e) e) (stepHas (rowMet g e) e) q) in
+        let is : entryKnown g e ≡ true =
+        and-left (entryKnown g e) (personHolds (rowMet g e) e)
+        (and-left (entryKnown g e && personHolds (rowMet g e) e) (stepHas (rowMet g e) e) q) in
         let below : s < g .steps =
         ltb-true s (g .steps)
         (and-right (ltb (e .person) (g .people)) (ltb s (g .steps))

@@ -8,8 +8,8 @@ use Rattle.sets.specs.Laws.{member-below}
 use Rattle.rules.specs.Graph.{Graph, setsFit, graphVerdict, rolesHeld}
 use Rattle.moves.specs.declared.Entry.{Entry}
 use Rattle.moves.specs.declared.Verdict.{Verdict}
-use Rattle.tables.specs.Tables.{keeps, arrowsFit}
-use Rattle.rules.specs.Answers.{known}
+use Rattle.tables.specs.Tables.{keeps, arrowRowsFit}
+use Rattle.rules.specs.Answers.{entryKnown}
 use Rattle.moves.specs.Move.{personHolds, stepHas}
 use Rattle.moves.specs.Given.{clear-head, clear-tail}
 use Rattle.rules.specs.Sound.{clear-sound}
@@ -22,7 +22,7 @@ pub possible-serves : (g : Graph) (e : Entry) → graphVerdict g ≡ Verdict.Cle
 unfolding setsFit
 possible-serves g e clear =
     same-truth (possible g e) (held && has-it)
-    (λ t. and-intro (and-right (known g e) held (and-left (known g e && held) has-it t)) (and-right (known g e && held) has-it t))
+    (λ t. and-intro (and-right (entryKnown g e) held (and-left (entryKnown g e && held) has-it t)) (and-right (entryKnown g e && held) has-it t))
     (λ t. and-intro (and-intro (is (and-left held has-it t) (and-right held has-it t)) (and-left held has-it t)) (and-right held has-it t))
   where
     held : Bool
@@ -41,9 +41,9 @@ possible-serves g e clear =
     h = keeps (g .people) (g .roles) (g .holds)
 
     roles : (a && h) ≡ true
-    roles = and-left (a && h) (arrowsFit (g .steps) (g .conditions) (g .responses) (g .includes) (g .excludes)) fit
+    roles = and-left (a && h) (arrowRowsFit (g .steps) (g .conditions) (g .responses) (g .includes) (g .excludes)) fit
 
-    is : held ≡ true → has-it ≡ true → known g e ≡ true
+    is : held ≡ true → has-it ≡ true → entryKnown g e ≡ true
     is p q =
         and-intro
         (and-intro

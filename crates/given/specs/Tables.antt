@@ -23,7 +23,7 @@ use Rattle.journal.specs.Walk.{handOut, strideOf, strideAt, numberOfWalked}
 use Rattle.records.specs.declared.Record.{Record}
 use Rattle.records.specs.Answers.{joinLines, theJoin, applyLines, theApplication, numberOfRecorded, numberOfApplied}
 use Rattle.records.specs.Answered.{number-recorded, number-applied}
-use Rattle.spelling.specs.Bytes.{readLines, theReading, writeLines}
+use Rattle.spelling.specs.Bytes.{fromBytesLines, theReading, toBytesLines}
 use Rattle.folding.specs.Answers.{foldLines, theFold}
 use Rattle.tracker.specs.declared.Track.{Track}
 use Rattle.tracker.specs.Tracker.{startLines, idleLines, stepLines, theStart, theIdle, theStep, numberOfTracked}
@@ -117,11 +117,11 @@ module _ (n : ℕ) where
       (number-applied (first (applyLines n r m)) m _)
 
   -- a record from its bytes: 2, 10
-  pub read-given : (s : List ℕ) → Exactly (numberOfRecorded (theReading n s)) (readLines n s)
+  pub read-given : (s : List ℕ) → Exactly (numberOfRecorded (theReading n s)) (fromBytesLines n s)
   unfolding ascends numberOf theReading
-  read-given s = exactly (readLines n s) (numberOfRecorded (theReading n s)) refl (number-recorded (first (readLines n s)) _)
+  read-given s = exactly (fromBytesLines n s) (numberOfRecorded (theReading n s)) refl (number-recorded (first (fromBytesLines n s)) _)
 
   -- and to its bytes: 2, 10, 18
-  pub write-given : (r : Record) (room : List ℕ) → Exactly (numberOfVerdict (first (writeLines n r room))) (writeLines n r room)
+  pub write-given : (r : Record) (room : List ℕ) → Exactly (numberOfVerdict (first (toBytesLines n r room))) (toBytesLines n r room)
   unfolding ascends numberOf
-  write-given r room = exactly (writeLines n r room) (numberOfVerdict (first (writeLines n r room))) refl refl
+  write-given r room = exactly (toBytesLines n r room) (numberOfVerdict (first (toBytesLines n r room))) refl refl

@@ -21,7 +21,7 @@ use Rattle.moves.specs.declared.Verdict.{Verdict}
 use Rattle.moves.specs.declared.Move.{Move}
 use Rattle.moves.specs.First.{Line, first}
 use Rattle.tables.specs.Tables.{row, keeps, rolesFit}
-use Rattle.rules.specs.Answers.{rowOf, known, entryLines, entryMove}
+use Rattle.rules.specs.Answers.{rowOf, entryKnown, entryLines, entryMove}
 use Rattle.moves.specs.Move.{isIncluded, waitsFor, after, moveOf}
 use Rattle.tables.specs.Laws.{Counted}
 use Rattle.rules.specs.Laws.{clear-counts}
@@ -86,11 +86,11 @@ abbrev noneWaits : Graph → Marking → Entry → Bool
 noneWaits g m e = empty (waitsFor (rowOf g (e .person) (e .step .0) .conditions) m)
 
 allowed-parts : (g : Graph) (m : Marking) (e : Entry)
-    → isAllowed g m e ≡ (known g e
+    → isAllowed g m e ≡ (entryKnown g e
     && (has (rolesHeld g (e .person)) (e .role) && (has (rolesOf g (e .step .0)) (e .role) && (isIncluded m e && noneWaits g m e))))
 unfolding nothingIn
 allowed-parts g m e =
-    parts (known g e) (has (rolesHeld g (e .person)) (e .role)) (has (rolesOf g (e .step .0)) (e .role)) (isIncluded m e) (noneWaits g m e)
+    parts (entryKnown g e) (has (rolesHeld g (e .person)) (e .role)) (has (rolesOf g (e .step .0)) (e .role)) (isIncluded m e) (noneWaits g m e)
 
 is-not : (b : Bool) → (b ≡ true → ⊥) → b ≡ false
 is-not true h = absurd (h refl)
@@ -102,7 +102,7 @@ pub record Named (g : Graph) (e : Entry) : Type 0 where
   pub step-in : e .step .0 < g .steps
   pub role-in : e .role < g .roles
 
-known-named : (g : Graph) (e : Entry) → known g e ≡ true → Named g e
+known-named : (g : Graph) (e : Entry) → entryKnown g e ≡ true → Named g e
 known-named g e k =
     let p = ltb (e .person) (g .people) in
     let s = ltb (e .step .0) (g .steps) in
@@ -114,7 +114,7 @@ known-named g e k =
     }
 
 pub allowed-named : (g : Graph) (m : Marking) (e : Entry) → isAllowed g m e ≡ true → Named g e
-allowed-named g m e ok = known-named g e (and-left (known g e) _ (sym (allowed-parts g m e) ∙ ok))
+allowed-named g m e ok = known-named g e (and-left (entryKnown g e) _ (sym (allowed-parts g m e) ∙ ok))
 
 -- ---- the tests of a run, on a graph with nothing against it
 
@@ -144,7 +144,7 @@ without-role g m e out =
     is-not (isAllowed g m e) (λ ok.
     let p = has (rolesHeld g (e .person)) (e .role) in
     let s = has (rolesOf g (e .step .0)) (e .role) in
-    let rest : (p && (s && (isIncluded m e && noneWaits g m e))) ≡ true = and-right (known g e) _ (sym (allowed-parts g m e) ∙ ok) in
+    let rest : (p && (s && (isIncluded m e && noneWaits g m e))) ≡ true = and-right (entryKnown g e) _ (sym (allowed-parts g m e) ∙ ok) in
     true≢false (sym (and-intro (and-left p _ rest) (and-left s _ (and-right p _ rest)))
     ∙ sym (has-meet (rolesHeld g (e .person)) (rolesOf g (e .step .0)) (e .role)) ∙ out))
 
@@ -153,7 +153,7 @@ not-included g m e out =
     is-not (isAllowed g m e) (λ ok.
     let p = has (rolesHeld g (e .person)) (e .role) in
     let s = has (rolesOf g (e .step .0)) (e .role) in
-    let rest : (p && (s && (isIncluded m e && noneWaits g m e))) ≡ true = and-right (known g e) _ (sym (allowed-parts g m e) ∙ ok) in
+    let rest : (p && (s && (isIncluded m e && noneWaits g m e))) ≡ true = and-right (entryKnown g e) _ (sym (allowed-parts g m e) ∙ ok) in
     true≢false (sym (and-left (isIncluded m e) _ (and-right s _ (and-right p _ rest))) ∙ out))
 
 -- nothing is stored beyond the counts
@@ -209,7 +209,7 @@ role-left g m e clear both included =
         go (yes l) = lt-ltb i n l
         go (no l) = absurd (h (let z : n ≤ i = omega arith in z))
 
-    named : known g e ≡ true
+    named : entryKnown g e ≡ true
     named =
         and-intro
         (and-intro

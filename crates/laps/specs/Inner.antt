@@ -16,7 +16,7 @@ use Rattle.moves.specs.Move.{moveOf, noMarking}
 use Rattle.moves.specs.Given.{ascends, first-above, clear-head, clear-back}
 use Rattle.moves.specs.Inside.{Inside, inside-fits}
 use Rattle.rules.specs.Graph.{Graph, graphLines, graphVerdict}
-use Rattle.rules.specs.Answers.{known, entryLines, entryMove, markingLines}
+use Rattle.rules.specs.Answers.{entryKnown, entryLines, entryMove, markingLines}
 use Rattle.rules.specs.Laws.{move-inside}
 use Rattle.rules.specs.Entries.{moved-clear, known-step}
 use Rattle.rules.specs.Sound.{clear-sound, after-inside}
@@ -60,7 +60,7 @@ module _ (g : Graph) (m : Marking) (e : ℕ → Entry) where
     inside-until zero all = inside
     inside-until (suc i) all =
         after-inside g (markingAt g m e i) (e i .person) (stepAt g m e i) (clear-sound g clear)
-        (known-step g (e i) (not-false (known g (e i)) (clear-head _ _ (all i (let z : i < suc i = omega arith in z)))))
+        (known-step g (e i) (not-false (entryKnown g (e i)) (clear-head _ _ (all i (let z : i < suc i = omega arith in z)))))
         (inside-until i (λ j h. all j (let z : j < suc i = omega arith in z)))
 
     by-entry : (i : ℕ) → UnbarredUntil i → movedAt g m e i ≡ entryMove g (markingAt g m e i) (e i)

@@ -130,19 +130,19 @@ module _ (g : Graph) (m : Marking) (e : ℕ → Entry) where
   Ends i s = (has (M i .due) s ≡ false) ⊎ (DoneAt g m e i s ⊎ ExcludedAt g m e i s)
 
   -- x are the steps of w that wait at each of the n positions from i on
-  pub record Kept (i n w x : ℕ) : Type 0 where
+  pub record Throughout (i n w x : ℕ) : Type 0 where
     pub only : (s : ℕ) → has x s ≡ true → (has w s ≡ true) × ((j : ℕ) → i ≤ j → j < i + n → Waiting g m e j s)
     pub gone : (s : ℕ) → has w s ≡ true → has x s ≡ false → (j : ℕ) × (i ≤ j) × (j < i + n) × Ends j s
 
-  kept-none : (i w : ℕ) → Kept i 0 w w
-  kept-none i w =
+  throughout-none : (i w : ℕ) → Throughout i 0 w w
+  throughout-none i w =
       record {
         only = λ s h. (h, λ j a b. absurd (let z : ⊥ = omega arith in z));
         gone = λ s h k. absurd (true≢false (sym h ∙ k));
       }
 
-  kept-more : (i n w x : ℕ) → Kept (suc i) n (still w (M i) (stepAt g m e i)) x → Kept i (suc n) w x
-  kept-more i n w x r = record { only = only; gone = λ s h k. gone s h k (has (still w (M i) (stepAt g m e i)) s) refl }
+  throughout-more : (i n w x : ℕ) → Throughout (suc i) n (still w (M i) (stepAt g m e i)) x → Throughout i (suc n) w x
+  throughout-more i n w x r = record { only = only; gone = λ s h k. gone s h k (has (still w (M i) (stepAt g m e i)) s) refl }
     where
       only : (s : ℕ) → has x s ≡ true → (has w s ≡ true) × ((j : ℕ) → i ≤ j → j < i + suc n → Waiting g m e j s)
       only s h = (now .0, λ j a b. go j a b (decLt i j))
@@ -171,7 +171,7 @@ module _ (g : Graph) (m : Marking) (e : ℕ → Entry) where
     pub left : ℕ
     pub is : leg ≡ Leg.Ended (M (i + n)) left
     pub allowed : (j : ℕ) → i ≤ j → j < i + n → says j ≡ Verdict.Clear
-    pub kept : Kept i n w left
+    pub kept : Throughout i n w left
 
   -- one of them is not
   pub record Barred (i n k : ℕ) (leg : Leg) : Type 0 where
@@ -190,7 +190,7 @@ module _ (g : Graph) (m : Marking) (e : ℕ → Entry) where
         is = ap (λ (j : ℕ). Leg.Ended (M j) w) (sym (add-zero i));
         allowed = λ j a b.
             absurd (let z : ⊥ = omega arith in z);
-        kept = kept-none i w;
+        kept = throughout-none i w;
       })
   leg-walks (suc n) i w k = go (says i) refl (leg-walks n (suc i) (still w (M i) (stepAt g m e i)) (k + 1))
     where
@@ -216,7 +216,7 @@ module _ (g : Graph) (m : Marking) (e : ℕ → Entry) where
             left = p .left;
             is = p .is ∙ ap (λ (j : ℕ). Leg.Ended (M j) (p .left)) (let z : suc i + n ≡ i + suc n = omega arith in z);
             allowed = first-too q n (p .allowed);
-            kept = kept-more i n w (p .left) (p .kept);
+            kept = throughout-more i n w (p .left) (p .kept);
           })
       go Verdict.Clear q (inr b) =
           let small : b .depth < n = b .small in

@@ -26,7 +26,7 @@ use Rattle.laps.specs.declared.Pass.{Pass}
 use Rattle.laps.specs.Endless.{movedAt, TakenAt, markingAt, DueAt, Waiting, Starving}
 use Rattle.laps.specs.Inner.{verdictAt, Unbarred, taken-clear, moves-at}
 use Rattle.laps.specs.Laps.{endlessRun, indexAt, passAt, numberOfPass, Stops}
-use Rattle.laps.specs.Legs.{chunk, chunk-is, after-chunk, Kept}
+use Rattle.laps.specs.Legs.{chunk, chunk-is, after-chunk, Throughout}
 use Rattle.laps.specs.Repeats.{Decides, for-ever, starving-from, period-decides}
 
 -- ---- where a position stands
@@ -141,7 +141,7 @@ module _ (stem lap : List Entry) (some : 0 < length lap) where
     twice-for-ever h = for-ever g m e second-lap (length lap) some entry-again marking-again h
 
     -- the steps that wait throughout the second lap are those that starve
-    pub second-decides : (w x : ℕ) → Kept g m e second-lap (length lap) w x → ((i s : ℕ) → DueAt g m e i s → has w s ≡ true)
+    pub second-decides : (w x : ℕ) → Throughout g m e second-lap (length lap) w x → ((i s : ℕ) → DueAt g m e i s → has w s ≡ true)
         → Decides g m e x
     second-decides = period-decides g m e second-lap (length lap) some entry-again marking-again
 

@@ -17,7 +17,7 @@ use Rattle.rules.specs.Answers.{rowOf, entryLines}
 use Rattle.moves.specs.Move.{after}
 use Rattle.laps.specs.Endless.{markingAt, DueAt, DoneAt, ExcludedAt, Accepting, Waiting, Starving}
 use Rattle.laps.specs.Inner.{verdictAt, Unbarred}
-use Rattle.laps.specs.Legs.{done-between, Ends, Kept}
+use Rattle.laps.specs.Legs.{done-between, Ends, Throughout}
 
 module _ (g : Graph) (m : Marking) (e : ℕ → Entry) where
   abbrev M : ℕ → Marking
@@ -148,7 +148,7 @@ module _ (g : Graph) (m : Marking) (e : ℕ → Entry) where
         same-waiting (r .0) i s (r .3) (st .1 (r .0) (r .1))
 
     -- what the steps that wait throughout the first period tell of the run
-    pub period-decides : (w x : ℕ) → Kept g m e b l w x → ((i s : ℕ) → DueAt g m e i s → has w s ≡ true) → Decides x
+    pub period-decides : (w x : ℕ) → Throughout g m e b l w x → ((i s : ℕ) → DueAt g m e i s → has w s ≡ true) → Decides x
     period-decides w x kept known =
         record {
           starving = λ s h. (b, waits-on s (kept .only s h .1));

@@ -31,7 +31,7 @@ use Rattle.laps.specs.Endless.{GoesOn, markingAt, DueAt}
 use Rattle.laps.specs.Inner.{verdictAt, Unbarred, inside-until, moves-at, refuses-at}
 use Rattle.laps.specs.Laps.{endlessRun, indexAt, passAt, numberOfPass, lengthsLines, emptyLines, lapLines, LapAnswer}
 use Rattle.laps.specs.Decision.{legOf, upon, judged, secondLap, firstLap, decision}
-use Rattle.laps.specs.Legs.{Kept, Passed, Barred, leg-tells}
+use Rattle.laps.specs.Legs.{Throughout, Passed, Barred, leg-tells}
 use Rattle.laps.specs.Repeats.{Decides}
 use Rattle.laps.specs.Places.{in-stem, in-lap, pass-first, pass-second, stem-stands, lap-stands, lap-stands-again, twice-for-ever}
 use Rattle.laps.specs.Places.{second-decides}
@@ -133,7 +133,7 @@ module _ (g : Graph) (m : Marking) (stem lap : List ℕ) where
             go (no l) = b .before j (let z : i ≤ j = omega arith in z) h
 
     -- what is left of the second lap decides
-    judged-right : Unbarred g m e → (x : ℕ) → Kept g m e b₂ (length L) (full 64) x → LapAnswer g m stem lap (judged x)
+    judged-right : Unbarred g m e → (x : ℕ) → Throughout g m e b₂ (length L) (full 64) x → LapAnswer g m stem lap (judged x)
     unfolding LapAnswer
     judged-right on x kept = go (empty x) refl
       where

@@ -121,7 +121,9 @@ fn first_lap<'a>(g: &'a Job, m: Marking, lap: &[u8]) -> Lapped
 
 // The stem, and then the lap twice, on a graph, journals and a marking that are as they should be. Refusals 11 to 15.
 pub fn decide<'a>(g: &'a Job, m: Marking, stem: &[u8], lap: &[u8]) -> Lapped
-    requires { ⌜ (graphVerdict (graphOf (now g)) ≡ Verdict.Clear) × (length (now stem) % 3 ≡ 0) × (length (now stem) ≤ 65535) × (length (now lap) % 3 ≡ 0) × (length (now lap) ≤ 65535) ⌝ }
+    requires { ⌜ (graphVerdict (graphOf (now g)) ≡ Verdict.Clear)
+        × (length (now stem) % 3 ≡ 0) × (length (now stem) ≤ 65535)
+        × (length (now lap) % 3 ≡ 0) × (length (now lap) ≤ 65535) ⌝ }
     ensures { λ r. ⌜ r ≡ decision (graphOf (now (g .entry))) m (entries (now (stem .entry))) (entries (now (lap .entry))) ⌝ }
 {
     let ran = run_entries(g, m, stem);

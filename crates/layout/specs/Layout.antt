@@ -8,7 +8,7 @@ use Rattle.numbers.specs.Numbers.{number, bytes}
 
 -- ---- written
 
--- a contents line: kind (1 byte), offset and length (2 bytes each, low byte first)
+-- a contents line of 5 bytes: of what kind the body is, where it starts, how long it is
 abbrev pub lineOf : ℕ → ℕ → ℕ → List ℕ
 lineOf kind offset size = bytes 1 kind ++ (bytes 2 offset ++ bytes 2 size)
 

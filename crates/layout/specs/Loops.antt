@@ -32,19 +32,19 @@ abbrev pub lines : List ℕ → List ℕ
 lines sizes = contents 1 (start (length sizes)) sizes
 
 -- the lines from i on, stored where the loop stands, give what all lines give at the start
-pub record Writing (sizes : List ℕ) (at : ℕ) (old room : List ℕ) (to offset i : ℕ) : Type 0 where
+pub record Storing (sizes : List ℕ) (at : ℕ) (old room : List ℕ) (to offset i : ℕ) : Type 0 where
   pub left : sets old at (lines sizes) ≡ sets room to (contents (i + 1) offset (drop i sizes))
   pub place : to + 5 * (length sizes - i) ≡ at + 5 * length sizes
   pub same : length room ≡ length old
 
 module _ (sizes : List ℕ) (at : ℕ) (old : List ℕ) where
-  pub writing-start : Writing sizes at old old at (start (length sizes)) 0
-  writing-start = record { left = refl; place = omega arith; same = refl }
+  pub storing-start : Storing sizes at old old at (start (length sizes)) 0
+  storing-start = record { left = refl; place = omega arith; same = refl }
 
-  pub writing-more : (room new : List ℕ) (to offset i r : ℕ) → Writing sizes at old room to offset i → i < length sizes
-      → Spliced (lineOf (i + 1) offset (getD sizes i 0)) to room new r → Writing sizes at old new r (offset + getD sizes i 0) (i + 1)
+  pub storing-more : (room new : List ℕ) (to offset i r : ℕ) → Storing sizes at old room to offset i → i < length sizes
+      → Spliced (lineOf (i + 1) offset (getD sizes i 0)) to room new r → Storing sizes at old new r (offset + getD sizes i 0) (i + 1)
   unfolding contents
-  writing-more room new to offset i r w h s =
+  storing-more room new to offset i r w h s =
       let line : List ℕ = lineOf (i + 1) offset (getD sizes i 0) in
       let rest : List ℕ = contents (i + 1 + 1) (offset + getD sizes i 0) (drop (i + 1) sizes) in
       let n : length line ≡ 5 = length-line (i + 1) offset (getD sizes i 0) in
@@ -60,10 +60,10 @@ module _ (sizes : List ℕ) (at : ℕ) (old : List ℕ) where
         same = spliced-length line to room new r s ∙ w .same;
       }
 
-  pub writing-done : (room : List ℕ) (to offset i : ℕ) → Writing sizes at old room to offset i → length sizes ≤ i
+  pub storing-done : (room : List ℕ) (to offset i : ℕ) → Storing sizes at old room to offset i → length sizes ≤ i
       → Spliced (lines sizes) at old room to
   unfolding contents
-  writing-done room to offset i w h =
+  storing-done room to offset i w h =
       let n : length (lines sizes) ≡ 5 * length sizes = length-contents 1 (start (length sizes)) sizes in
       let p : to + 5 * (length sizes - i) ≡ at + 5 * length sizes = w .place in
       record {

@@ -1,15 +1,21 @@
 // Numbers as bytes, lowest first, in lent memory.
 ghost use mathlib.Core.Path.{_≡_};
-ghost use Prim.Native.Nat.{ℕ, _+_, _<_, _≤_};
+ghost use Prim.Native.Nat.{ℕ, _+_, _*_, _<_, _≤_};
 ghost use lib.ListN.{length, drop};
 ghost use Rattle.numbers.specs.Numbers.{number, bytes, Spliced};
+
+fn together(low: u8, high: u8) -> u16
+    ensures { λ r. ⌜ r ≡ low + 256 * high ⌝ }
+{
+    low as u16 + 256 * (high as u16)
+}
 
 // The number that the two bytes at `at` spell.
 pub fn two(s: &[u8], at: usize) -> u16
     requires { ⌜ at + 2 ≤ length (now s) ⌝ }
     ensures { λ r. ⌜ r ≡ number 2 (drop at (now (s .entry))) ⌝ }
 {
-    s[at] as u16 + 256 * (s[at + 1] as u16)
+    together(s[at], s[at + 1])
 }
 
 fn four(s: &[u8], at: usize) -> u32

@@ -8,13 +8,8 @@ ghost use Rattle.records.specs.Records.{applies, gives, wellFormed, comp
 use crate::Applied;
 use crate::Record;
 use moves::Marking;
+use moves::NONE;
 use moves::Refusal;
-
-pub const NONE: Marking = Marking {
-    done: 0,
-    due: 0,
-    included: 0,
-};
 
 // The record that no marking suits.
 pub const NEVER: Record = Record {

@@ -2,6 +2,7 @@
 ghost use mathlib.Core.Path.{_≡_};
 ghost use Rattle.records.specs.Answers.{theJoin, theApplication};
 use moves::Marking;
+use moves::NONE;
 use moves::Refusal;
 
 pub mod inner;
@@ -64,13 +65,13 @@ impl Record {
         ensures { λ r. ⌜ r ≡ theApplication n self m ⌝ }
     {
         if !inner::counts(n) {
-            return Applied::Refused(Refusal::Counts, inner::NONE);
+            return Applied::Refused(Refusal::Counts, NONE);
         }
         if !moves::inner::fits(n, m) {
-            return Applied::Refused(Refusal::Outside, inner::NONE);
+            return Applied::Refused(Refusal::Outside, NONE);
         }
         if !inner::well_formed(n, self) {
-            return Applied::Refused(Refusal::IllFormed, inner::NONE);
+            return Applied::Refused(Refusal::IllFormed, NONE);
         }
         inner::applied(self, m)
     }

@@ -21,7 +21,8 @@ use Rattle.tables.specs.Laws.{row-at, rows-at, keeps-row, named-below}
 use Rattle.arrows.specs.Arrows.{Arrow, links, allLink, linkInOrder, rowAt, tableOf, held, place, arrowAt, arrowsOf}
 use Rattle.arrows.specs.Lists.{member}
 use Rattle.arrows.specs.Places.{Ranged, links-ranged, arrowAt-place}
-use Rattle.arrows.specs.Table.{row-condition, row-other, column-condition, column-other, links-in, rows-filled, held-filled, length-filled, arrowOn, on-ranged, on-held}
+use Rattle.arrows.specs.Table.{row-condition, row-other, column-condition, column-other, links-in, rows-filled, held-filled}
+use Rattle.arrows.specs.Table.{length-filled, arrowOn, on-ranged, on-held}
 use Rattle.arrows.specs.Codec.{arrows-fit, table-of-arrows}
 use Rattle.arrows.specs.Rows.{Kept, kindRows}
 use Rattle.rounds.specs.Tests.{keeps-exactly}

@@ -28,7 +28,8 @@ use Rattle.layout.specs.Laws.{bodiesFrom, laid-fits, laid-bodies}
 use Rattle.bodies.specs.declared.Counts.{Counts}
 use Rattle.bodies.specs.Bodies.{countsBody, countsIn, markingBody, markingIn, rolesBody, setsIn, roleSetsFit}
 use Rattle.bodies.specs.Laws.{length-counts, length-marking, length-roles}
-use Rattle.reading.specs.Reading.{countsOf, firstOf, arrowsOn, blockRead, layoutFits, countsRight, bodiesMatch, setsInside, arrowsRight, kindsRight, readVerdict}
+use Rattle.reading.specs.Reading.{countsOf, firstOf, arrowsOn, blockRead}
+use Rattle.reading.specs.Reading.{layoutFits, countsRight, bodiesMatch, setsInside, arrowsRight, kindsRight, readVerdict}
 use Rattle.reading.specs.Laws.{contents-inside}
 use Rattle.writing.specs.Writing.{arrowTable, bodiesOf, sheetBytes, contentLines}
 use Rattle.writing.specs.Laws.{Fitting, clear-fitting, graph-clear, marking-clear, part-kept}

@@ -27,8 +27,8 @@ rowOf g p s =
     }
 
 -- the entry names a person, a step and a role that there are
-abbrev pub known : Graph → Entry → Bool
-known g e = ltb (e .person) (g .people) && ltb (e .step .0) (g .steps) && ltb (e .role) (g .roles)
+abbrev pub entryKnown : Graph → Entry → Bool
+entryKnown g e = ltb (e .person) (g .people) && ltb (e .step .0) (g .steps) && ltb (e .role) (g .roles)
 
 -- ---- the tables
 
@@ -36,7 +36,7 @@ abbrev pub markingLines : Graph → Marking → List Line
 markingLines g m = sizeLines (g .steps) m
 
 abbrev pub entryLines : Graph → Marking → Entry → List Line
-entryLines g m e = (Unknown, not (known g e)) ∷ rowLines (rowOf g (e .person) (e .step .0)) m e
+entryLines g m e = (Unknown, not (entryKnown g e)) ∷ rowLines (rowOf g (e .person) (e .step .0)) m e
 
 abbrev pub moveLines : Graph → Marking → Entry → List Line
 moveLines g m e = graphLines g ++ markingLines g m ++ entryLines g m e

@@ -14,7 +14,7 @@ use Rattle.moves.specs.declared.Verdict.{Verdict}
 use Rattle.moves.specs.declared.Move.{Move}
 use Rattle.moves.specs.First.{first, numberOf}
 use Rattle.moves.specs.Move.{after, moveOf, noMarking}
-use Rattle.rules.specs.Answers.{rowOf, known, entryLines, moveLines, entryMove, theMove}
+use Rattle.rules.specs.Answers.{rowOf, entryKnown, entryLines, moveLines, entryMove, theMove}
 use Rattle.moves.specs.Given.{clear-head, ascends, first-above}
 use Rattle.rules.specs.Sound.{Sound, after-inside}
 use Rattle.moves.specs.Inside.{Inside}
@@ -48,7 +48,7 @@ unfolding theMove moveOf
 clear-moved g m e p = ap (λ (v : Verdict). moveOf v m (after (rowOf g (e .person) (e .step .0)) m (e .step .0))) p
 
 -- an entry that is known names a step of the graph
-pub known-step : (g : Graph) (e : Entry) → known g e ≡ true → e .step .0 < g .steps
+pub known-step : (g : Graph) (e : Entry) → entryKnown g e ≡ true → e .step .0 < g .steps
 known-step g e k =
     let p = ltb (e .person) (g .people) in
     let s = ltb (e .step .0) (g .steps) in
@@ -56,11 +56,11 @@ known-step g e k =
 
 -- the marking after an entry that is allowed
 pub entry-after : (g : Graph) (m next : Marking) (e : Entry) → entryMove g m e ≡ Move.Moved next
-    → (known g e ≡ true) × (after (rowOf g (e .person) (e .step .0)) m (e .step .0) ≡ next)
+    → (entryKnown g e ≡ true) × (after (rowOf g (e .person) (e .step .0)) m (e .step .0) ≡ next)
 unfolding entryMove
 entry-after g m next e q =
     let clear = moved-of (first (entryLines g m e)) m (after (rowOf g (e .person) (e .step .0)) m (e .step .0)) next q in
-    (not-false (known g e) (clear-head _ _ (clear .0)), clear .1)
+    (not-false (entryKnown g e) (clear-head _ _ (clear .0)), clear .1)
 
 -- an entry that is not gives back the marking handed in
 pub entry-back : (g : Graph) (m back : Marking) (e : Entry) (r : Refusal) → entryMove g m e ≡ Move.Refused r back → (11 ≤ numberOf r)

@@ -5,7 +5,7 @@ use mathlib.Core.Bool.{Bool, not, _&&_}
 use Rattle.moves.specs.declared.Refusal.the-variants.{Counts, Beyond, Both}
 use Rattle.moves.specs.declared.Verdict.{Verdict}
 use Rattle.moves.specs.First.{Line, first}
-use Rattle.tables.specs.Tables.{row, countsFit, rolesFit, arrowsFit, kindsApart, tableAt}
+use Rattle.tables.specs.Tables.{row, countsFit, rolesFit, arrowRowsFit, kindsApart, tableAt}
 
 -- a job: three counts, and tables of sets. Row b of `conditions` is what b waits for; row a of the next three is what a points at
 pub record Graph : Type 0 where
@@ -69,7 +69,7 @@ rolesHeld g p = row (g .holds) p
 unfoldable pub setsFit : Graph → Bool
 setsFit g =
     rolesFit (g .steps) (g .people) (g .roles) (g .allows) (g .holds)
-    && arrowsFit (g .steps) (g .conditions) (g .responses) (g .includes) (g .excludes)
+    && arrowRowsFit (g .steps) (g .conditions) (g .responses) (g .includes) (g .excludes)
 
 -- the table for a graph
 abbrev pub graphLines : Graph → List Line

@@ -17,7 +17,7 @@ use Rattle.moves.specs.declared.Refusal.the-variants.{Outside, Unknown}
 use Rattle.moves.specs.First.{Line, first, numberOf}
 use Rattle.tables.specs.Tables.{countsFit}
 use Rattle.moves.specs.Move.{moveOf, isFinished, markingFits, sizeLines, rowLines, after, noMarking}
-use Rattle.rules.specs.Answers.{entryMove, moveOn, theMove, theEnding, endingOn, endingOf, known, entryLines, markingLines, rowOf}
+use Rattle.rules.specs.Answers.{entryMove, moveOn, theMove, theEnding, endingOn, endingOf, entryKnown, entryLines, markingLines, rowOf}
 use Rattle.moves.specs.Given.{first-clear, first-refused, clear-head, numbersBelow, first-below}
 use Rattle.tables.specs.Laws.{Counted, counts-bound}
 
@@ -91,11 +91,11 @@ ending-inside n m f = ap (λ (v : Verdict). endingOf v (isFinished m)) (inside n
 
 -- ---- an entry, by what is known of it
 
-pub entry-unknown : (g : Graph) (m : Marking) (e : Entry) → known g e ≡ false → entryMove g m e ≡ Move.Refused Unknown m
+pub entry-unknown : (g : Graph) (m : Marking) (e : Entry) → entryKnown g e ≡ false → entryMove g m e ≡ Move.Refused Unknown m
 unfolding entryMove first moveOf numberOf
 entry-unknown g m e k = simp k
 
-pub entry-known : (g : Graph) (m : Marking) (e : Entry) → known g e ≡ true
+pub entry-known : (g : Graph) (m : Marking) (e : Entry) → entryKnown g e ≡ true
     → entryMove g m e ≡ moveOf (first (rowLines (rowOf g (e .person) (e .step .0)) m e)) m
     (after (rowOf g (e .person) (e .step .0)) m (e .step .0))
 unfolding entryMove first

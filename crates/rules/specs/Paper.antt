@@ -14,7 +14,7 @@ use Rattle.moves.specs.declared.Entry.{Entry}
 use Rattle.moves.specs.declared.Verdict.{Verdict}
 use Rattle.moves.specs.declared.Move.{Move}
 use Rattle.moves.specs.First.{first, numberOfVerdict, numberOf}
-use Rattle.rules.specs.Answers.{theMove, moveLines, entryLines, markingLines, known, rowOf, numberOfEnding, endingOf, theEnding}
+use Rattle.rules.specs.Answers.{theMove, moveLines, entryLines, markingLines, entryKnown, rowOf, numberOfEnding, endingOf, theEnding}
 use Rattle.moves.specs.Move.{moveOf, rowLines, after, waitsFor, isFinished, markingFits, numberOfMove}
 use Rattle.moves.specs.Given.{ascends, holds, first-lowest, clear-head, clear-tail, clear-front, first-clear}
 use Rattle.rules.specs.Signs.{_∩_, _∖_, _∪_, _∈_, Ex, Re, In}
@@ -101,12 +101,12 @@ allowed-lines g m e w =
 pub record Ready (g : Graph) (m : Marking) (e : Entry) : Type 0 where
   pub graph : graphVerdict g ≡ Verdict.Clear
   pub marking : markingFits (g .steps) m ≡ true
-  pub names : known g e ≡ true
+  pub names : entryKnown g e ≡ true
 
 -- Definition 4 (i) to (vi) with Definition 5, from left to right: a step taken was allowed, and leads to the marking after
-pub moved-allowed : (g : Graph) (m x : Marking) (e : Entry) → theMove g m e ≡ Move.Moved x
+pub taken-allowed : (g : Graph) (m x : Marking) (e : Entry) → theMove g m e ≡ Move.Moved x
     → Ready g m e × Allowed g m e × (x ≡ after (rowOf g (e .person) (e .step .0)) m (e .step .0))
-moved-allowed g m x e q =
+taken-allowed g m x e q =
     let c : first (moveLines g m e) ≡ Verdict.Clear = moved-clear g m x e q in
     let graph : graphVerdict g ≡ Verdict.Clear = clear-front (graphLines g) (markingLines g m ++ entryLines g m e) c in
     let rest : first (markingLines g m ++ entryLines g m e) ≡ Verdict.Clear =
@@ -115,17 +115,17 @@ moved-allowed g m x e q =
       record {
         graph = graph;
         marking = not-false (markingFits (g .steps) m) (clear-head _ _ rest);
-        names = not-false (known g e) (clear-head _ _ entry);
+        names = not-false (entryKnown g e) (clear-head _ _ entry);
       },
       lines-allowed g m e (clear-tail _ _ entry),
       sym (moved-after g m x e q),
     )
 
 -- and from right to left: what is allowed is taken
-pub allowed-moved : (g : Graph) (m : Marking) (e : Entry) → Ready g m e → Allowed g m e
+pub allowed-taken : (g : Graph) (m : Marking) (e : Entry) → Ready g m e → Allowed g m e
     → theMove g m e ≡ Move.Moved (after (rowOf g (e .person) (e .step .0)) m (e .step .0))
 unfolding theMove moveOf first
-allowed-moved g m e r w =
+allowed-taken g m e r w =
     let rest : first (markingLines g m ++ entryLines g m e) ≡ Verdict.Clear = simp (r .marking, r .names, allowed-lines g m e w) in
     ap (λ (v : Verdict). moveOf v m (after (rowOf g (e .person) (e .step .0)) m (e .step .0)))
     (first-clear (graphLines g) (markingLines g m ++ entryLines g m e) (r .graph) ∙ rest)

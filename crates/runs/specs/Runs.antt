@@ -49,17 +49,17 @@ run-append g m k (e ∷ a) b = go (theMove g m e) (λ next. run-append g next (k
     go (Move.Refused r back) rest = refl
 
 -- a run whose entries stand n further on
-unfoldable pub later : ℕ → Ran → Ran
-later n (Ran.Ended m k) = Ran.Ended m (n + k)
-later n (Ran.Stopped k r m) = Ran.Stopped (n + k) r m
+unfoldable pub further : ℕ → Ran → Ran
+further n (Ran.Ended m k) = Ran.Ended m (n + k)
+further n (Ran.Stopped k r m) = Ran.Stopped (n + k) r m
 
-pub run-later : (g : Graph) (m : Marking) (n k : ℕ) (es : List Entry) → runFrom g m (n + k) es ≡ later n (runFrom g m k es)
-unfolding runFrom goOn later
+pub run-later : (g : Graph) (m : Marking) (n k : ℕ) (es : List Entry) → runFrom g m (n + k) es ≡ further n (runFrom g m k es)
+unfolding runFrom goOn further
 run-later g m n k [] = refl
 run-later g m n k (e ∷ rest) = go (theMove g m e) (λ next. run-later g next n (k + 1) rest)
   where
-    go : (o : Move) → ((next : Marking) → runFrom g next (n + (k + 1)) rest ≡ later n (runFrom g next (k + 1) rest))
-        → goOn (n + k) m o (λ next. runFrom g next (n + k + 1) rest) ≡ later n (goOn k m o (λ next. runFrom g next (k + 1) rest))
+    go : (o : Move) → ((next : Marking) → runFrom g next (n + (k + 1)) rest ≡ further n (runFrom g next (k + 1) rest))
+        → goOn (n + k) m o (λ next. runFrom g next (n + k + 1) rest) ≡ further n (goOn k m o (λ next. runFrom g next (k + 1) rest))
     go (Move.Moved next) more = ap (λ (x : ℕ). runFrom g next x rest) (let z : n + k + 1 ≡ n + (k + 1) = omega arith in z) ∙ more next
     go (Move.Refused r back) more = refl
 
@@ -175,12 +175,12 @@ run-within g m k (e ∷ rest) clear i = go (theMove g m e) refl (λ next. run-wi
 -- ---- the same of a journal
 
 -- what a run that is not refused below 11 has shown of graph, length and marking
-pub record Ready (g : Graph) (m : Marking) (j : List ℕ) : Type 0 where
+pub record Runnable (g : Graph) (m : Marking) (j : List ℕ) : Type 0 where
   pub clear : graphVerdict g ≡ Verdict.Clear
   pub long : lengthFits j ≡ true
   pub within : markingFits (g .steps) m ≡ true
 
-ready : (g : Graph) (m : Marking) (j : List ℕ) → first (runLines g m j) ≡ Verdict.Clear → Ready g m j
+ready : (g : Graph) (m : Marking) (j : List ℕ) → first (runLines g m j) ≡ Verdict.Clear → Runnable g m j
 ready g m j e =
     let rest = clear-back (graphLines g) (lengthLines j ++ markingLines g m) e in
     record {
@@ -191,11 +191,11 @@ ready g m j e =
 
 -- a run that ends: all pass
 pub ended-passes : (g : Graph) (m m′ : Marking) (n : ℕ) (j : List ℕ) → theRun g m j ≡ Ran.Ended m′ n
-    → Ready g m j × (n ≡ length (entries j)) × Passes g m (entries j) m′
+    → Runnable g m j × (n ≡ length (entries j)) × Passes g m (entries j) m′
 unfolding theRun ranOf
 ended-passes g m m′ n j e = go (first (runLines g m j)) refl
   where
-    go : (v : Verdict) → first (runLines g m j) ≡ v → Ready g m j × (n ≡ length (entries j)) × Passes g m (entries j) m′
+    go : (v : Verdict) → first (runLines g m j) ≡ v → Runnable g m j × (n ≡ length (entries j)) × Passes g m (entries j) m′
     go Verdict.Clear q =
         let p = run-passes g m m′ 0 n (entries j) (ap (λ (v : Verdict). ranOf v (runFrom g m 0 (entries j))) (sym q) ∙ e) in
         let count : n ≡ 0 + length (entries j) = p .0 in
@@ -206,11 +206,11 @@ ended-passes g m m′ n j e = go (first (runLines g m j)) refl
 
 -- a run that stops at an entry stops at the first not allowed
 pub stopped-first : (g : Graph) (m m′ : Marking) (n : ℕ) (r : Refusal) (j : List ℕ) → theRun g m j ≡ Ran.Stopped n r m′ → 11 ≤ numberOf r
-    → Ready g m j × StopsAt g m (entries j) n r m′
+    → Runnable g m j × StopsAt g m (entries j) n r m′
 unfolding theRun ranOf numbersBelow numberOf
 stopped-first g m m′ n r j e high = go (first (runLines g m j)) refl
   where
-    go : (v : Verdict) → first (runLines g m j) ≡ v → Ready g m j × StopsAt g m (entries j) n r m′
+    go : (v : Verdict) → first (runLines g m j) ≡ v → Runnable g m j × StopsAt g m (entries j) n r m′
     go Verdict.Clear q =
         let known = ready g m j q in
         let s = run-stops g m m′ 0 n r (entries j) (known .clear) (fits-inside (g .steps) m (known .within))
@@ -236,8 +236,8 @@ left-within g m j = go (first (runLines g m j)) refl
 
 -- the run of a ++ b is the run of a and then of b
 pub journals-append : (g : Graph) (m : Marking) (a b : List ℕ) → lengthFits a ≡ true → lengthFits (a ++ b) ≡ true
-    → theRun g m (a ++ b) ≡ andThen (theRun g m a) (λ m′ n. later n (theRun g m′ b))
-unfolding andThen later markingOfRun
+    → theRun g m (a ++ b) ≡ andThen (theRun g m a) (λ m′ n. further n (theRun g m′ b))
+unfolding andThen further markingOfRun
 journals-append g m a b fa fab = graph (graphVerdict g) refl
   where
     threes : length b % 3 ≡ 0
@@ -257,26 +257,26 @@ journals-append g m a b fa fab = graph (graphVerdict g) refl
     fb = and-intro (eq-eqb (length b % 3) 0 threes) (le-leb (length b) 65535 most)
 
     second : graphVerdict g ≡ Verdict.Clear → (v : Ran) → Inside (g .steps) (markingOfRun v)
-        → andThen v (λ m′ k. runFrom g m′ k (entries b)) ≡ andThen v (λ m′ n. later n (theRun g m′ b))
+        → andThen v (λ m′ k. runFrom g m′ k (entries b)) ≡ andThen v (λ m′ n. further n (theRun g m′ b))
     second clear (Ran.Ended m′ n) i =
         ap (λ (x : ℕ). runFrom g m′ x (entries b)) (sym (add-zero n))
         ∙ run-later g m′ n 0 (entries b)
-        ∙ ap (later n) (sym (run-clear g m′ b clear fb (inside-fits (g .steps) m′ i)))
+        ∙ ap (further n) (sym (run-clear g m′ b clear fb (inside-fits (g .steps) m′ i)))
     second clear (Ran.Stopped k r m′) i = refl
 
     marking : graphVerdict g ≡ Verdict.Clear → (t : Bool) → markingFits (g .steps) m ≡ t
-        → theRun g m (a ++ b) ≡ andThen (theRun g m a) (λ m′ n. later n (theRun g m′ b))
+        → theRun g m (a ++ b) ≡ andThen (theRun g m a) (λ m′ n. further n (theRun g m′ b))
     marking clear true p =
         run-clear g m (a ++ b) clear fab p
         ∙ ap (runFrom g m 0) (entries-append a b (fits-threes a fa))
         ∙ run-append g m 0 (entries a) (entries b)
         ∙ second clear (runFrom g m 0 (entries a)) (run-within g m 0 (entries a) clear (fits-inside (g .steps) m p))
-        ∙ ap (λ (v : Ran). andThen v (λ m′ n. later n (theRun g m′ b))) (sym (run-clear g m a clear fa p))
+        ∙ ap (λ (v : Ran). andThen v (λ m′ n. further n (theRun g m′ b))) (sym (run-clear g m a clear fa p))
     marking clear false p =
         run-outside g m (a ++ b) clear fab p
-        ∙ ap (λ (v : Ran). andThen v (λ m′ n. later n (theRun g m′ b))) (sym (run-outside g m a clear fa p))
+        ∙ ap (λ (v : Ran). andThen v (λ m′ n. further n (theRun g m′ b))) (sym (run-outside g m a clear fa p))
 
-    graph : (v : Verdict) → graphVerdict g ≡ v → theRun g m (a ++ b) ≡ andThen (theRun g m a) (λ m′ n. later n (theRun g m′ b))
+    graph : (v : Verdict) → graphVerdict g ≡ v → theRun g m (a ++ b) ≡ andThen (theRun g m a) (λ m′ n. further n (theRun g m′ b))
     graph Verdict.Clear q = marking q (markingFits (g .steps) m) refl
     graph (Verdict.Refused r) q = run-graph g m (a ++ b) r q
-        ∙ ap (λ (v : Ran). andThen v (λ m′ n. later n (theRun g m′ b))) (sym (run-graph g m a r q))
+        ∙ ap (λ (v : Ran). andThen v (λ m′ n. further n (theRun g m′ b))) (sym (run-graph g m a r q))

@@ -26,37 +26,37 @@ use Rattle.runs.specs.Runs.{Passes, ended-passes, stopped-first}
 -- ---- walk and run agree entry by entry
 
 -- an entry that is handed out stands before what is handed out later
-unfoldable pub before : Walked → List Entry → List Entry
-before (Walked.At e) later = e ∷ later
-before Walked.End later = later
-before (Walked.Refused r) later = later
+unfoldable pub handedBefore : Walked → List Entry → List Entry
+handedBefore (Walked.At e) later = e ∷ later
+handedBefore Walked.End later = later
+handedBefore (Walked.Refused r) later = later
 
 -- what n calls of a walk hand out, from place k on
 unfoldable pub handed : ℕ → List ℕ → ℕ → List Entry
 handed zero j k = []
-handed (suc n) j k = before (strideAt j k .said) (handed n j (strideAt j k .place))
+handed (suc n) j k = handedBefore (strideAt j k .said) (handed n j (strideAt j k .place))
 
 -- it is the entries from entry k on, at most n of them, in their order, and none twice
 pub walk-hands : (n : ℕ) (j : List ℕ) (k : ℕ) → lengthFits j ≡ true → handed n j k ≡ take n (drop k (entries j))
-unfolding handed before handOut
+unfolding handed handedBefore handOut
 walk-hands zero j k f = refl
 walk-hands (suc n) j k f = go (drop k (entries j)) refl (λ i. walk-hands n j i f)
   where
     go : (es : List Entry) → drop k (entries j) ≡ es → ((i : ℕ) → handed n j i ≡ take n (drop i (entries j)))
-        → before (strideAt j k .said) (handed n j (strideAt j k .place)) ≡ take (suc n) (drop k (entries j))
+        → handedBefore (strideAt j k .said) (handed n j (strideAt j k .place)) ≡ take (suc n) (drop k (entries j))
     go [] q more =
-        ap (λ (s : Stride). before (s .said) (handed n j (s .place))) (walk-fits j k f ∙ ap (handOut k) q)
+        ap (λ (s : Stride). handedBefore (s .said) (handed n j (s .place))) (walk-fits j k f ∙ ap (handOut k) q)
         ∙ more k ∙ ap (take n) q ∙ take-nil n ∙ ap (take (suc n)) (sym q)
     go (e ∷ rest) q more =
-        ap (λ (s : Stride). before (s .said) (handed n j (s .place))) (walk-fits j k f ∙ ap (handOut k) q)
+        ap (λ (s : Stride). handedBefore (s .said) (handed n j (s .place))) (walk-fits j k f ∙ ap (handOut k) q)
         ∙ ap (λ (t : List Entry). e ∷ t) (more (k + 1) ∙ ap (take n) (sym (drop-drop 1 k (entries j)) ∙ ap (drop 1) q))
         ∙ ap (take (suc n)) (sym q)
 
 -- over a journal of bad length nothing is ever handed out
 pub walk-hands-none : (n : ℕ) (j : List ℕ) (k : ℕ) → lengthFits j ≡ false → handed n j k ≡ []
-unfolding handed before
+unfolding handed handedBefore
 walk-hands-none zero j k f = refl
-walk-hands-none (suc n) j k f = ap (λ (s : Stride). before (s .said) (handed n j (s .place))) (walk-length j k f) ∙ walk-hands-none n j k f
+walk-hands-none (suc n) j k f = ap (λ (s : Stride). handedBefore (s .said) (handed n j (s .place))) (walk-length j k f) ∙ walk-hands-none n j k f
 
 -- where a run stops, the walk hands out the entry that it stopped at, after those that passed
 pub stopped-walk : (g : Graph) (m m′ : Marking) (k : ℕ) (r : Refusal) (j : List ℕ) → theRun g m j ≡ Ran.Stopped k r m′ → 11 ≤ numberOf r

@@ -35,16 +35,16 @@ rows (suc k) [] = 0 ∷ rows k []
 rows (suc k) (x ∷ given) = set x ∷ rows k given
 
 -- an arrow: kind, from, to
-abbrev pub Arrow : Type 0
-Arrow = ℕ × ℕ × ℕ
+abbrev pub Triple : Type 0
+Triple = ℕ × ℕ × ℕ
 
 -- {b | there is an arrow of this kind from a to b}
-unfoldable pub targets : ℕ → List Arrow → ℕ → ℕ
+unfoldable pub targets : ℕ → List Triple → ℕ → ℕ
 targets kind [] a = 0
 targets kind (x ∷ rest) a = union (cond (eqb (x .0) kind && eqb (x .1) a) (single (x .2)) 0) (targets kind rest a)
 
 -- {a | there is an arrow of this kind from a to b}
-unfoldable pub sources : ℕ → List Arrow → ℕ → ℕ
+unfoldable pub sources : ℕ → List Triple → ℕ → ℕ
 sources kind [] b = 0
 sources kind (x ∷ rest) b = union (cond (eqb (x .0) kind && eqb (x .2) b) (single (x .1)) 0) (sources kind rest b)
 
@@ -54,7 +54,7 @@ table zero s f = []
 table (suc k) s f = f s ∷ table k (suc s) f
 
 -- kinds: 0 condition, 1 response, 2 include, 3 exclude. A condition stands with the step that waits, each other arrow with its first step
-abbrev pub graph : ℕ → ℕ → ℕ → List (List ℕ) → List (List ℕ) → List Arrow → Graph
+abbrev pub graph : ℕ → ℕ → ℕ → List (List ℕ) → List (List ℕ) → List Triple → Graph
 graph steps people roles stepRoles held arrows =
     record {
       steps = steps;
@@ -81,8 +81,8 @@ job =
     graph 3 2 2 ((0 ∷ 1 ∷ []) ∷ (0 ∷ []) ∷ (1 ∷ []) ∷ []) ((0 ∷ []) ∷ (1 ∷ []) ∷ []) ((0, 1, 2) ∷ (1, 0, 1) ∷ (2, 1, 2) ∷ (3, 0, 2) ∷ [])
 
 -- "Start: Ex and Re empty, In {0,1,2}."
-abbrev pub start : Marking
-start = marking [] [] (0 ∷ 1 ∷ 2 ∷ [])
+abbrev pub firstMarking : Marking
+firstMarking = marking [] [] (0 ∷ 1 ∷ 2 ∷ [])
 
 -- (0,0,0), and (0,1,0): the climber reboots, and does the order check
 abbrev pub reboot : Entry

@@ -20,7 +20,7 @@ use Rattle.laps.specs.Laps.{LapAnswer}
 use Rattle.laps.specs.Decision.{goThrough, legOn, upon, secondLap, firstLap, decision, lapOf, theLap}
 use Rattle.laps.specs.Laws.{the-lap-right}
 use Rattle.tracker.specs.Tracker.{theStart, theStep, trackAfter, trackedOf}
-use Rattle.samples.specs.Job.{set, rows, targets, sources, table, given, job, start, entry, reboot, check, publish, rebooted}
+use Rattle.samples.specs.Job.{set, rows, targets, sources, table, given, job, firstMarking, entry, reboot, check, publish, rebooted}
 use Rattle.samples.specs.Job.{checked, at, tracking, journal, folded}
 
 -- a sample: its number, and what it says
@@ -39,19 +39,19 @@ a also b = (a, b)
 unfoldable pub samples : List Sample
 samples =
     -- S1: (1,2,1) at start: 15, waits for 1
-    (1, given (theMove job start publish) ≡ (15, 1, start))
+    (1, given (theMove job firstMarking publish) ≡ (15, 1, firstMarking))
     -- S2: (0,0,0): Ex {0}, Re {1}, In {0,1}; not finished
-    ∷ (2, (given (theMove job start reboot) ≡ (0, 0, rebooted)) × (isFinished rebooted ≡ false))
+    ∷ (2, (given (theMove job firstMarking reboot) ≡ (0, 0, rebooted)) × (isFinished rebooted ≡ false))
     -- S3: (1,2,1) after S2: 14
     ∷ (3, given (theMove job rebooted publish) ≡ (14, 0, rebooted))
     -- S4: (0,1,0) after S2: Ex {0,1}, Re empty, In {0,1,2}; finished
     ∷ (4, (given (theMove job rebooted check) ≡ (0, 0, checked)) × (isFinished checked ≡ true))
     -- S5: (1,1,1): 13
-    ∷ (5, given (theMove job start (entry 1 1 1)) ≡ (13, 0, start))
+    ∷ (5, given (theMove job firstMarking (entry 1 1 1)) ≡ (13, 0, firstMarking))
     -- S6: (1,1,0): 12
-    ∷ (6, given (theMove job start (entry 1 1 0)) ≡ (12, 0, start))
+    ∷ (6, given (theMove job firstMarking (entry 1 1 0)) ≡ (12, 0, firstMarking))
     -- S7: (2,0,0): 11
-    ∷ (7, given (theMove job start (entry 2 0 0)) ≡ (11, 0, start))
+    ∷ (7, given (theMove job firstMarking (entry 2 0 0)) ≡ (11, 0, firstMarking))
     -- S8: fold of reboot: NeedIn {0}, Done {0}, DueSet {1}, DueClear {0}, InClear {2}
     ∷ (8, theFold job (journal (reboot ∷ [])) ≡ folded (0 ∷ []) [] [] (0 ∷ []) (1 ∷ []) (0 ∷ []) [] (2 ∷ []))
     -- S9: reboot and check fold to NeedIn, Done and DueClear {0,1}, and InSet {2}
@@ -63,33 +63,33 @@ samples =
     -- S12: without a stem, reboot for ever starves step 1; reboot and check for ever are accepted
     ∷ (
       12,
-      LapAnswer job start [] (journal (reboot ∷ [])) (Lapped.Starved (record { 0 = 1 }))
-          × LapAnswer job start [] (journal (reboot ∷ check ∷ [])) Lapped.Accepted,
+      LapAnswer job firstMarking [] (journal (reboot ∷ [])) (Lapped.Starved (record { 0 = 1 }))
+          × LapAnswer job firstMarking [] (journal (reboot ∷ check ∷ [])) Lapped.Accepted,
     )
     -- S13: after reboot the tracker has rank 1 and its flag down, after check rank 2 and its flag up
     ∷ (
       13,
-      (tracking job (theStart job start) reboot ≡ at rebooted 1 false)
-          × (tracking job (tracking job (theStart job start) reboot) check ≡ at checked 2 true),
+      (tracking job (theStart job firstMarking) reboot ≡ at rebooted 1 false)
+          × (tracking job (tracking job (theStart job firstMarking) reboot) check ≡ at checked 2 true),
     )
     ∷ []
 
 -- the laps of S12 are decided by computing, and the decision is right for the run without end
-starved : theLap job start [] (journal (reboot ∷ [])) ≡ Lapped.Starved (record { 0 = 1 })
+starved : theLap job firstMarking [] (journal (reboot ∷ [])) ≡ Lapped.Starved (record { 0 = 1 })
 unfolding journal set rows targets sources table job first numberOf keeps setsFit has full scan lowest every goThrough legOn upon secondLap
     firstLap decision lapOf theLap entryMove moveOf entries
 starved = refl
 
-accepted : theLap job start [] (journal (reboot ∷ check ∷ [])) ≡ Lapped.Accepted
+accepted : theLap job firstMarking [] (journal (reboot ∷ check ∷ [])) ≡ Lapped.Accepted
 unfolding journal set rows targets sources table job first numberOf keeps setsFit has full scan lowest every goThrough legOn upon secondLap
     firstLap decision lapOf theLap entryMove moveOf entries
 accepted = refl
 
-twelve : LapAnswer job start [] (journal (reboot ∷ [])) (Lapped.Starved (record { 0 = 1 }))
-    × LapAnswer job start [] (journal (reboot ∷ check ∷ [])) Lapped.Accepted
+twelve : LapAnswer job firstMarking [] (journal (reboot ∷ [])) (Lapped.Starved (record { 0 = 1 }))
+    × LapAnswer job firstMarking [] (journal (reboot ∷ check ∷ [])) Lapped.Accepted
 twelve = (
-  subst (LapAnswer job start [] (journal (reboot ∷ []))) starved (the-lap-right job start [] (journal (reboot ∷ []))),
-  subst (LapAnswer job start [] (journal (reboot ∷ check ∷ []))) accepted (the-lap-right job start [] (journal (reboot ∷ check ∷ []))),
+  subst (LapAnswer job firstMarking [] (journal (reboot ∷ []))) starved (the-lap-right job firstMarking [] (journal (reboot ∷ []))),
+  subst (LapAnswer job firstMarking [] (journal (reboot ∷ check ∷ []))) accepted (the-lap-right job firstMarking [] (journal (reboot ∷ check ∷ []))),
 )
 
 pub samples-hold : Hold samples

@@ -49,16 +49,16 @@ recordAt s =
 abbrev pub readable : ℕ → List ℕ → Bool
 readable n s = eqb (length s) 65 && leb (getD s 0 0) 1 && wellFormed n (recordAt s)
 
-abbrev pub readLines : ℕ → List ℕ → List Line
-readLines n s = (Counts, not (within1to n 64)) ∷ (IllFormed, not (readable n s)) ∷ []
+abbrev pub fromBytesLines : ℕ → List ℕ → List Line
+fromBytesLines n s = (Counts, not (within1to n 64)) ∷ (IllFormed, not (readable n s)) ∷ []
 
 unfoldable pub theReading : ℕ → List ℕ → Recorded
-theReading n s = recordedOf (first (readLines n s)) (recordAt s)
+theReading n s = recordedOf (first (fromBytesLines n s)) (recordAt s)
 
 -- ---- to bytes: 2, 10, 18
 
-abbrev pub writeLines : ℕ → Record → List ℕ → List Line
-writeLines n r room = (Counts, not (within1to n 64)) ∷ (IllFormed, not (wellFormed n r)) ∷ (Room, ltb (length room) 65) ∷ []
+abbrev pub toBytesLines : ℕ → Record → List ℕ → List Line
+toBytesLines n r room = (Counts, not (within1to n 64)) ∷ (IllFormed, not (wellFormed n r)) ∷ (Room, ltb (length room) 65) ∷ []
 
 -- the room is written only where nothing is against it, and stays as it was beyond the 65 bytes
 unfoldable pub roomOf : Verdict → Record → List ℕ → List ℕ
@@ -67,5 +67,5 @@ roomOf (Verdict.Refused q) r room = room
 
 -- what is answered, and the room afterwards
 pub record Writing (n : ℕ) (r : Record) (old : List ℕ) (v : Verdict) (new : List ℕ) : Type 0 where
-  pub answer : v ≡ first (writeLines n r old)
-  pub room : new ≡ roomOf (first (writeLines n r old)) r old
+  pub answer : v ≡ first (toBytesLines n r old)
+  pub room : new ≡ roomOf (first (toBytesLines n r old)) r old

@@ -34,10 +34,10 @@ pub spelt-then : (x : ℕ) (xs : List ℕ) (at : ℕ) (old mid new : List ℕ) (
 unfolding setsSpelt
 spelt-then x xs at old mid new r q a b = spliced-then (bytes 8 x) (setsSpelt xs) at old mid new r q a b
 
-pub spelt-append : (xs ys : List ℕ) → setsSpelt (xs ++ ys) ≡ setsSpelt xs ++ setsSpelt ys
+pub setsSpelt-append : (xs ys : List ℕ) → setsSpelt (xs ++ ys) ≡ setsSpelt xs ++ setsSpelt ys
 unfolding setsSpelt
-spelt-append [] ys = refl
-spelt-append (x ∷ xs) ys = ap (λ (l : List ℕ). bytes 8 x ++ l) (spelt-append xs ys) ∙ sym (append-assoc (bytes 8 x) (setsSpelt xs) (setsSpelt ys))
+setsSpelt-append [] ys = refl
+setsSpelt-append (x ∷ xs) ys = ap (λ (l : List ℕ). bytes 8 x ++ l) (setsSpelt-append xs ys) ∙ sym (append-assoc (bytes 8 x) (setsSpelt xs) (setsSpelt ys))
 
 -- what is left of the room behind w bytes
 pub room-behind : (w x k at : ℕ) (old new : List ℕ) (r : ℕ) → Spliced (bytes w x) at old new r → at + (w + k) ≤ length old
@@ -85,7 +85,7 @@ spelt-record r old one two new i j k h a b c =
     let front : List ℕ = r .needin ∷ r .needex ∷ r .needout ∷ r .done ∷ [] in
     let back : List ℕ = r .dueset ∷ r .dueclear ∷ r .inset ∷ r .inclear ∷ [] in
     let both : Spliced (setsSpelt (setsOf r)) i one new k =
-    subst (λ (v : List ℕ). Spliced v i one new k) (sym (spelt-append front back))
+    subst (λ (v : List ℕ). Spliced v i one new k) (sym (setsSpelt-append front back))
     (spliced-then (setsSpelt front) (setsSpelt back) i one two new j k b c) in
     let all : Spliced (recordBytes r) 0 old new k = spliced-then (bytes 1 (flag (r .never))) (setsSpelt (setsOf r)) 0 old one new i k a both in
     let whole : 0 + length (recordBytes r) ≡ 65 = omega (arith, length-record r) in
@@ -96,9 +96,9 @@ spelt-record r old one two new i j k h a b c =
 -- ---- reading what was written
 
 -- the bytes that a byte or a set is read from are those it was spelt in
-pub read-written : (r : Record) → Bounded 64 r → recordAt (recordBytes r) ≡ r
+pub recordAt-recordBytes : (r : Record) → Bounded 64 r → recordAt (recordBytes r) ≡ r
 unfolding recordAt recordBytes setsSpelt bytes number
-read-written r b i =
+recordAt-recordBytes r b i =
     record {
       never = told (r .never) i;
       needin = set (r .needin) (b .needin-in) i;
@@ -120,7 +120,7 @@ read-written r b i =
 
 -- records of 64 steps are equal exactly if their bytes are
 pub bytes-same : (a b : Record) → Bounded 64 a → Bounded 64 b → recordBytes a ≡ recordBytes b → a ≡ b
-bytes-same a b p q e = sym (read-written a p) ∙ ap recordAt e ∙ read-written b q
+bytes-same a b p q e = sym (recordAt-recordBytes a p) ∙ ap recordAt e ∙ recordAt-recordBytes b q
 
 -- a record of n steps is one of 64
 pub bounded-64 : (n : ℕ) (r : Record) → n ≤ 64 → Bounded n r → Bounded 64 r
@@ -160,10 +160,10 @@ spelt-sets (suc k) s h l =
     ∙ take-append-drop 8 s
 
 -- the bytes of the record that is read are the bytes
-pub written-read : (s : List ℕ) → Bytes s → length s ≡ 65 → getD s 0 0 ≤ 1 → recordBytes (recordAt s) ≡ s
+pub recordBytes-recordAt : (s : List ℕ) → Bytes s → length s ≡ 65 → getD s 0 0 ≤ 1 → recordBytes (recordAt s) ≡ s
 unfolding recordBytes recordAt bytes
-written-read [] h l low = absurd (let z : ⊥ = omega arith in z)
-written-read (b ∷ s) h l low =
+recordBytes-recordAt [] h l low = absurd (let z : ⊥ = omega arith in z)
+recordBytes-recordAt (b ∷ s) h l low =
     let rest : length s ≡ 64 = omega arith in
     ap₂ _∷_ (told b low) (places ∙ spelt-sets 8 s (λ i. h (suc i)) rest)
   where
@@ -181,18 +181,18 @@ written-read (b ∷ s) h l low =
 pub reads-back : (n : ℕ) (r : Record) → within1to n 64 ≡ true → wellFormed n r ≡ true → theReading n (recordBytes r) ≡ Recorded.Made r
 unfolding theReading recordedOf first
 reads-back n r c w =
-    let same : recordAt (recordBytes r) ≡ r = read-written r (bounded-64 n r (counts-most n c) (well-formed n r w .bounded)) in
+    let same : recordAt (recordBytes r) ≡ r = recordAt-recordBytes r (bounded-64 n r (counts-most n c) (well-formed n r w .bounded)) in
     simp (c, same, eq-eqb (length (recordBytes r)) 65 (length-record r), le-leb (getD (recordBytes r) 0 0) 1 (flag-low r), w)
 
 -- what bytes that were read show
-pub record Reading (n : ℕ) (s : List ℕ) (r : Record) : Type 0 where
+pub record SpeltIn (n : ℕ) (s : List ℕ) (r : Record) : Type 0 where
   pub counts : within1to n 64 ≡ true
   pub size : length s ≡ 65
   pub low : getD s 0 0 ≤ 1
   pub good : wellFormed n r ≡ true
   pub spells : recordAt s ≡ r
 
-pub reading : (n : ℕ) (s : List ℕ) (r : Record) → theReading n s ≡ Recorded.Made r → Reading n s r
+pub reading : (n : ℕ) (s : List ℕ) (r : Record) → theReading n s ≡ Recorded.Made r → SpeltIn n s r
 unfolding theReading recordedOf first
 reading n s r e = go (within1to n 64) refl (readable n s) refl
   where
@@ -202,7 +202,7 @@ reading n s r e = go (within1to n 64) refl (readable n s) refl
     low : Bool
     low = leb (getD s 0 0) 1
 
-    go : (c : Bool) → within1to n 64 ≡ c → (g : Bool) → readable n s ≡ g → Reading n s r
+    go : (c : Bool) → within1to n 64 ≡ c → (g : Bool) → readable n s ≡ g → SpeltIn n s r
     go true p true q =
         let same : recordAt s ≡ r = cc in
         let both : (size && low) ≡ true = and-left (size && low) (wellFormed n (recordAt s)) q in
@@ -218,4 +218,4 @@ reading n s r e = go (within1to n 64) refl (readable n s) refl
 
 -- the bytes of a record that was read are those it was read from
 pub writes-back : (n : ℕ) (s : List ℕ) (r : Record) → theReading n s ≡ Recorded.Made r → Bytes s → recordBytes r ≡ s
-writes-back n s r e h = let k : Reading n s r = reading n s r e in ap recordBytes (sym (k .spells)) ∙ written-read s h (k .size) (k .low)
+writes-back n s r e h = let k : SpeltIn n s r = reading n s r e in ap recordBytes (sym (k .spells)) ∙ recordBytes-recordAt s h (k .size) (k .low)

@@ -25,11 +25,11 @@ pub fn read(n: u64, s: &[u8]) -> Recorded
     if 1 < s[0] {
         return Recorded::Refused(Refusal::IllFormed);
     }
-    let r = record_at(s);
-    if !well_formed(n, r) {
+    let made = record_at(s);
+    if !well_formed(n, made) {
         return Recorded::Refused(Refusal::IllFormed);
     }
-    Recorded::Made(r)
+    Recorded::Made(made)
 }
 
 // A record of n steps into the first 65 bytes of the room. Refusals 2, 10, 18.

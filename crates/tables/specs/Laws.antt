@@ -14,7 +14,7 @@ use Rattle.sets.specs.Sets.{union, empty, within, full, gather, every, has}
 use Rattle.sets.specs.Truth.{and-exchange, and-left, and-right, and-intro, same-truth}
 use Rattle.sets.specs.Laws.{empty-gather, empty-union, within-gather, within-union, within-full, every-and, every-same, every-at, every-of}
 use Rattle.sets.specs.Laws.{has-zero}
-use Rattle.tables.specs.Tables.{row, tableAt, keeps, rolesFit, arrowsFit, kindsApart, countsFit}
+use Rattle.tables.specs.Tables.{row, tableAt, keeps, rolesFit, arrowRowsFit, kindsApart, countsFit}
 use Rattle.moves.specs.Move.{within1to}
 use Rattle.tables.specs.Gathered.{beyond, rowsTogether, rowsShared, Sized}
 use lib.Pow.{pow-pos, pow-mono}
@@ -164,7 +164,7 @@ keeps-64 k t e = ap (λ (room : ℕ). every room (λ i. within (cond (ltb i k) k
 pub arrows-keep : (k : ℕ) (r s t u : List ℕ) (inside all past : ℕ) → inside ≡ full k → k ≤ 64
     → length r ≡ 64 → length s ≡ 64 → length t ≡ 64 → length u ≡ 64
     → all ≡ gather k (rowsTogether r s t u) → past ≡ gather 64 (beyond k (rowsTogether r s t u))
-    → (leb all inside && empty past) ≡ arrowsFit k r s t u
+    → (leb all inside && empty past) ≡ arrowRowsFit k r s t u
 arrows-keep k r s t u inside all past n h lr ls lt lu pa pp =
     ap₂ _&&_ (ap (leb all) n ∙ within-full k all ∙ ap (within k) pa) (ap empty pp)
     ∙ gathered-kept 64 k k k (rowsTogether r s t u) (le-refl k) h
@@ -181,7 +181,7 @@ words-keep t e w =
 
 pub words-fit : (r s t u : List ℕ) → Sized 64 r s t u
     → ((i : ℕ) → row r i < 2 ^ 64) → ((i : ℕ) → row s i < 2 ^ 64) → ((i : ℕ) → row t i < 2 ^ 64) → ((i : ℕ) → row u i < 2 ^ 64)
-    → true ≡ arrowsFit 64 r s t u
+    → true ≡ arrowRowsFit 64 r s t u
 words-fit r s t u l wr ws wt wu =
     sym (and-intro (and-intro (words-keep r (l .first) wr) (words-keep s (l .second) ws))
     (and-intro (words-keep t (l .third) wt) (words-keep u (l .fourth) wu)))

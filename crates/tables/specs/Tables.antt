@@ -28,8 +28,8 @@ abbrev pub rolesFit : ℕ → ℕ → ℕ → List ℕ → List ℕ → Bool
 rolesFit steps people roles allows holds = keeps steps roles allows && keeps people roles holds
 
 -- the arrows of the four kinds
-abbrev pub arrowsFit : ℕ → List ℕ → List ℕ → List ℕ → List ℕ → Bool
-arrowsFit steps conditions responses includes excludes =
+abbrev pub arrowRowsFit : ℕ → List ℕ → List ℕ → List ℕ → List ℕ → Bool
+arrowRowsFit steps conditions responses includes excludes =
     (keeps steps steps conditions && keeps steps steps responses) && (keeps steps steps includes && keeps steps steps excludes)
 
 -- 6 is given unless no pair is both include and exclude

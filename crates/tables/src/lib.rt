@@ -3,7 +3,7 @@ ghost use mathlib.Core.Path.{_≡_};
 ghost use Prim.Native.Nat.{_≤_};
 ghost use lib.ListN.{length};
 ghost use Rattle.sets.specs.Sets.{gather};
-ghost use Rattle.tables.specs.Tables.{row, countsFit, rolesFit, arrowsFit, kindsApart};
+ghost use Rattle.tables.specs.Tables.{row, countsFit, rolesFit, arrowRowsFit, kindsApart};
 ghost use Rattle.tables.specs.Gathered.{beyond, rowsTogether, rowsShared, Reach, Sized};
 
 // What the tables of arrows name, and what some step both includes and excludes.
@@ -79,7 +79,8 @@ fn arrows_beyond<'a>(
     count: usize,
 ) -> u64
     requires { ⌜ (count ≤ 64) × Reach 64 (now conditions) (now responses) (now includes) (now excludes) ⌝ }
-    ensures { λ r. ⌜ r ≡ gather 64 (beyond count (rowsTogether (now (conditions .entry)) (now (responses .entry)) (now (includes .entry)) (now (excludes .entry)))) ⌝ }
+    ensures { λ r. ⌜ r ≡ gather 64 (beyond count
+        (rowsTogether (now (conditions .entry)) (now (responses .entry)) (now (includes .entry)) (now (excludes .entry)))) ⌝ }
 {
     let mut found = 0;
     let mut i = count;
@@ -155,7 +156,7 @@ fn arrows_full<'a>(
     excludes: &'a [u64],
 ) -> Arrows
     requires { ⌜ Sized 64 (now conditions) (now responses) (now includes) (now excludes) ⌝ }
-    ensures { λ r. ⌜ r .fit ≡ arrowsFit 64 (now (conditions .entry)) (now (responses .entry)) (now (includes .entry)) (now (excludes .entry)) ⌝ }
+    ensures { λ r. ⌜ r .fit ≡ arrowRowsFit 64 (now (conditions .entry)) (now (responses .entry)) (now (includes .entry)) (now (excludes .entry)) ⌝ }
     ensures { λ r. ⌜ r .apart ≡ kindsApart 64 (now (includes .entry)) (now (excludes .entry)) ⌝ }
 {
     let both = arrows_shared(includes, excludes);
@@ -173,7 +174,7 @@ pub fn arrows_checked<'a>(
     excludes: &'a [u64],
 ) -> Arrows
     requires { ⌜ (steps ≤ 64) × Sized 64 (now conditions) (now responses) (now includes) (now excludes) ⌝ }
-    ensures { λ r. ⌜ r .fit ≡ arrowsFit steps (now (conditions .entry)) (now (responses .entry)) (now (includes .entry)) (now (excludes .entry)) ⌝ }
+    ensures { λ r. ⌜ r .fit ≡ arrowRowsFit steps (now (conditions .entry)) (now (responses .entry)) (now (includes .entry)) (now (excludes .entry)) ⌝ }
     ensures { λ r. ⌜ r .apart ≡ kindsApart steps (now (includes .entry)) (now (excludes .entry)) ⌝ }
 {
     if steps == 64 {

@@ -16,7 +16,10 @@ spell-requires : tie.Need-spell-requires
 spell-requires c κs = search needs
 
 returns : tie.Need-returns
-returns c = rw (c .before .before .join .ensures, c .before .before .before .before .record-in .ensures, c .before .before .before .record-in2 .ensures) at (c .spell .ensures)
+returns c =
+    let first = c .before .before .before .before .record-in .ensures in
+    let second = c .before .before .before .record-in2 .ensures in
+    rw (c .before .before .join .ensures, first, second) at (c .spell .ensures)
 
 pub ulz-join-spec : {M : Type 1} → statement M
 ulz-join-spec =

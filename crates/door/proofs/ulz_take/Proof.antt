@@ -1,7 +1,8 @@
 -- `ulz_take`: the graph's refusal, or the move on a graph with nothing against it; number and values of either. Assumes nothing.
-use mathlib.Core.Path.{sym, _∙_}
+use mathlib.Core.Path.{_≡_, sym, _∙_}
 use borrow.Author.Needs.{needs}
 use Rattle.rules.specs.Graph.{graphOf}
+use Rattle.rules.specs.Answers.{moveOn}
 use Rattle.rules.specs.Laws.{move-refused, move-clear}
 use Rattle.door.proofs.ulz_take.Statement.{statement}
 use Rattle.door.proofs.ulz_take.Tie as tie
@@ -34,7 +35,8 @@ returns-2 : tie.Need-returns-2
 returns-2 c =
     let a = c .before .before .before .before .before .args in
     let verdict = sym (c .before .before .before .before .check .ensures) ∙ c .before .before .enum-told .given .1 in
-    rw (move-clear (graphOf (a .g .now)) (a .m) (a .e) verdict, ← c .before .take-on .ensures) (c .moved2 .ensures)
+    let moved : c .before .take-on .result ≡ moveOn (graphOf (a .g .now)) (a .m) (a .e) = c .before .take-on .ensures in
+    rw (move-clear (graphOf (a .g .now)) (a .m) (a .e) verdict, ← moved) (c .moved2 .ensures)
 
 pub ulz-take-spec : {M : Type 1} → statement M
 ulz-take-spec =

@@ -1,5 +1,6 @@
 -- `restore`: the graph's refusal, then the length's, the marking's and the record's, then whether it applies, then the entries one by one.
 -- Assumes nothing.
+use Prim.Native.Nat.{_≤_}
 use mathlib.Core.Path.{_≡_, sym, _∙_, ap}
 use mathlib.Core.Bool.{true, false}
 use borrow.Author.Needs.{needs}
@@ -74,8 +75,8 @@ well-formed-requires c κs =
     let g : Graph = graphOf (a .g .now) in
     let clear : graphVerdict g ≡ Verdict.Clear = sym (c .before .before .before .before .before .before .check .ensures)
     ∙ c .before .before .before .before .enum-told .given .1 in
-    let b : Counted (g .steps) (g .people) (g .roles) = clear-counts g clear in
-    b .steps-most
+    let most : g .steps ≤ 64 = clear-counts g clear .steps-most in
+    search needs
 
 returns-4 : tie.Need-returns-4
 returns-4 c =

@@ -3,13 +3,13 @@ use Prim.Native.Nat.{_+_, _-_, _*_, _≤_}
 use native.Mathlib.Omega.{arith}
 use lib.ListN.{length}
 use borrow.Author.Needs.{needs}
-use Rattle.layout.specs.Loops.{Writing, writing-start, writing-more, writing-done}
+use Rattle.layout.specs.Loops.{Storing, storing-start, storing-more, storing-done}
 use Rattle.layout.proofs.write_lines.Statement.{statement}
 use Rattle.layout.proofs.write_lines.Tie as tie
 
 abbrev Inv-loop : tie.InvT-loop
 Inv-loop sizes room₀ at to₀ offset₀ i₀ room to offset i = (i ≤ length sizes) × (offset ≤ 1 + 5 * length sizes + 65536 * i)
-    × Writing sizes at room₀ room to offset i
+    × Storing sizes at room₀ room to offset i
 
 abbrev μ-loop : tie.MeasureT-loop
 μ-loop sizes room₀ at to₀ offset₀ i₀ room to offset i = length sizes - i
@@ -23,7 +23,7 @@ add-offset c = search needs
 loop-holds : tie.Need-loop-holds Inv-loop μ-loop
 loop-holds c =
     let a = c .before .before .args in
-    (search needs, search needs, writing-start (a .sizes .now) (a .at) (a .room .now))
+    (search needs, search needs, storing-start (a .sizes .now) (a .at) (a .room .now))
 
 add-write-line : tie.Need-add-write-line Inv-loop μ-loop
 add-write-line c = search needs
@@ -64,7 +64,7 @@ loop-again c =
     let l = c .before .before .before .before .before .before .before .loop in (
       search needs,
       omega (arith, c .before .before .before .before .before .before .before .before .before .before .pre .2 (l .i)),
-      writing-more (a .sizes .now) (a .at) (a .room .now) (l .room) _ (l .to) (l .offset) (l .i) _ (l .inv .2)
+      storing-more (a .sizes .now) (a .at) (a .room .now) (l .room) _ (l .to) (l .offset) (l .i) _ (l .inv .2)
           (c .before .before .before .before .before .before .loop-test .taken) (c .before .before .before .write-line .ensures),
     )
 
@@ -75,7 +75,7 @@ returns : tie.Need-returns Inv-loop μ-loop
 returns c =
     let a = c .before .before .before .before .args in
     let l = c .before .loop in
-    writing-done (a .sizes .now) (a .at) (a .room .now) (l .room) (l .to) (l .offset) (l .i) (l .inv .2) (c .loop-test .left)
+    storing-done (a .sizes .now) (a .at) (a .room .now) (l .room) (l .to) (l .offset) (l .i) (l .inv .2) (c .loop-test .left)
 
 pub write-lines-spec : {M : Type 1} → statement M
 write-lines-spec =

@@ -1,47 +1,33 @@
 -- `two`: a byte, and 256 times the next. Assumes nothing.
-use Prim.Native.Nat.{_+_}
-use mathlib.Core.Path.{sym}
-use native.Mathlib.Omega.{arith}
+use mathlib.Core.Path.{sym, _∙_}
 use borrow.Author.Needs.{needs}
 use Rattle.numbers.specs.Laws.{number-two}
 use Rattle.numbers.proofs.two.Statement.{statement}
 use Rattle.numbers.proofs.two.Tie as tie
 
-shared-slice-read-result : tie.Need-shared-slice-read-result
-shared-slice-read-result c = search needs
+shared-slice-read-together : tie.Need-shared-slice-read-together
+shared-slice-read-together c = search needs
 
-cast-result : tie.Need-cast-result
-cast-result c = omega (arith, c .shared-slice-known .given (c .before .args .at))
+add-together : tie.Need-add-together
+add-together c = search needs
 
-add-result : tie.Need-add-result
-add-result c = search needs
+shared-slice-read-together-2 : tie.Need-shared-slice-read-together-2
+shared-slice-read-together-2 c = search needs
 
-shared-slice-read-result-2 : tie.Need-shared-slice-read-result-2
-shared-slice-read-result-2 c = search needs
-
-cast-result-2 : tie.Need-cast-result-2
-cast-result-2 c = omega (arith, c .before .shared-slice-known .given (c .before .before .args .at + 1))
-
-mul-result : tie.Need-mul-result
-mul-result c = omega (arith, c .before .shared-slice-known .given (c .before .before .args .at + 1))
-
-add-result-2 : tie.Need-add-result-2
-add-result-2 c =
-    let a = c .before .before .args in
-    omega (arith, c .before .shared-slice-known .given (a .at), c .before .shared-slice-known .given (a .at + 1))
+together-requires : tie.Need-together-requires
+together-requires c κs = search needs
 
 returns : tie.Need-returns
-returns c = sym (number-two (c .before .before .args .at) (c .before .before .args .s .now))
+returns c =
+    let a = c .before .before .before .before .args in
+    c .together .ensures ∙ sym (number-two (a .at) (a .s .now))
 
 pub two-spec : {M : Type 1} → statement M
 two-spec =
     tie.close
     (tie.spec
-    shared-slice-read-result
-    cast-result
-    add-result
-    shared-slice-read-result-2
-    cast-result-2
-    mul-result
-    add-result-2
+    shared-slice-read-together
+    add-together
+    shared-slice-read-together-2
+    together-requires
     returns)

@@ -1,12 +1,14 @@
 -- `check`: the three tests are the table's three lines, in its order. Assumes nothing.
+use Prim.Native.Nat.{ℕ, _<_, _≤_}
 use mathlib.Core.Path.{_≡_, sym, _∙_, ap, ap₂}
-use mathlib.Core.Bool.{not, _&&_}
+use mathlib.Core.Bool.{false, not, _&&_}
 use native.Mathlib.Omega.{arith}
 use lib.ListN.{length}
+use lib.Dec.{lit<}
 use borrow.Author.Tests.{not-false}
 use Rattle.moves.specs.First.{first}
 use Rattle.rules.specs.Graph.{Graph, graphOf, setsFit}
-use Rattle.tables.specs.Tables.{row, kindsApart}
+use Rattle.tables.specs.Tables.{row, tableAt, countsFit, kindsApart}
 use Rattle.tables.specs.Laws.{Counted, counts-bound, rows-at}
 use borrow.Author.Needs.{needs}
 use Rattle.rules.proofs.check.Statement.{statement}
@@ -70,14 +72,10 @@ arrows-checked-requires c κs =
     let l : length (a .g .now) ≡ 339 = c .before .before .before .before .w .given .0 in
     let b : Counted (row (a .g .now) 0) (row (a .g .now) 1) (row (a .g .now) 2) =
     counts-bound _ _ _ (sym (c .before .before .before .before .before .before .counts-fit .ensures)
-    ∙ not-false _ (c .before .before .before .before .before .if1 .left)) in (
+    ∙ not-false _ (c .before .before .before .before .before .if1 .left)) in
+    let rows : (at : ℕ) → at < 276 → length (tableAt at 64 (a .g .now)) ≡ 64 = λ at h. rows-at at 64 (a .g .now) (omega arith) in (
       b .steps-most,
-      record {
-        first = rows-at 3 64 (a .g .now) (omega arith);
-        second = rows-at 67 64 (a .g .now) (omega arith);
-        third = rows-at 131 64 (a .g .now) (omega arith);
-        fourth = rows-at 195 64 (a .g .now) (omega arith);
-      },
+      record { first = rows 3 (lit< tt); second = rows 67 (lit< tt); third = rows 131 (lit< tt); fourth = rows 195 (lit< tt) },
     )
 
 sub-roles-fit : tie.Need-sub-roles-fit
@@ -105,47 +103,44 @@ roles-fit-requires c κs =
     let b : Counted (row (a .g .now) 0) (row (a .g .now) 1) (row (a .g .now) 2) =
     counts-bound _ _ _ (sym (c .before .before .before .before .before .before .before .before .before .counts-fit .ensures)
     ∙ not-false _ (c .before .before .before .before .before .before .before .before .if1 .left)) in
-    (b .steps-most, b .people-most, b .roles-most, rows-at 259 64 (a .g .now) (omega arith), rows-at 323 16 (a .g .now) (omega arith))
+    let steps : row (a .g .now) 0 ≤ 64 = b .steps-most in
+    let people : row (a .g .now) 1 ≤ 16 = b .people-most in
+    let roles : row (a .g .now) 2 ≤ 16 = b .roles-most in
+    (omega arith, omega arith, omega arith, rows-at 259 64 (a .g .now) (omega arith), rows-at 323 16 (a .g .now) (omega arith))
+
+-- where both tests of the tables are done: the graph, and what was told of it up to there
+abbrev passed : tie.After-roles-fit → tie.Else1
+passed done = done .before .before .before .before .before .before .before .before .before
+
+abbrev graph : tie.After-roles-fit → Graph
+graph done = graphOf (passed done .before .before .before .before .before .args .g .now)
+
+counted : (done : tie.After-roles-fit) → not (countsFit (graph done .steps) (graph done .people) (graph done .roles)) ≡ false
+counted done = ap not (sym (passed done .before .counts-fit .ensures)) ∙ passed done .if1 .left
+
+fit : (done : tie.After-roles-fit) → setsFit (graph done) ≡ (done .roles-fit .result && done .before .before .before .arrows-checked .result .fit)
+unfolding setsFit
+fit done = sym (ap₂ _&&_ (done .roles-fit .ensures) (done .before .before .before .arrows-checked .ensures .0))
+
+apart : (done : tie.After-roles-fit) → kindsApart (graph done .steps) (graph done .includes) (graph done .excludes)
+    ≡ done .before .before .before .arrows-checked .result .apart
+apart done = sym (done .before .before .before .arrows-checked .ensures .1)
 
 returns-2 : tie.Need-returns-2
-unfolding first setsFit
-returns-2 c =
-    let g : Graph = graphOf
-    (c .before .before .before .before .before .before .before .before .before .before .before .before .before .before .before .before .args .g .now) in
-    let fit : setsFit g ≡ (c .before .before .roles-fit .result && c .before .before .before .before .before .arrows-checked .result .fit) =
-    sym (ap₂ _&&_ (c .before .before .roles-fit .ensures) (c .before .before .before .before .before .arrows-checked .ensures .0)) in
-    let counted = c .before .before .before .before .before .before .before .before .before .before .before in
-    simp (ap not (sym (counted .before .counts-fit .ensures)) ∙ counted .if1 .left, ap not fit ∙ c .if2 .taken)
+unfolding first
+returns-2 c = let done = c .before .before in simp (counted done, ap not (fit done) ∙ c .if2 .taken)
 
 returns-3 : tie.Need-returns-3
-unfolding first setsFit
+unfolding first
 returns-3 c =
-    let g : Graph = graphOf
-    (c .before .before .before .before .before .before .before .before .before .before .before .before .before .before .before .before .before .before .args .g .now) in
-    let fit : setsFit g ≡ (c .before .before .before .before .roles-fit .result
-    && c .before .before .before .before .before .before .before .arrows-checked .result .fit) =
-    sym (ap₂ _&&_ (c .before .before .before .before .roles-fit .ensures)
-    (c .before .before .before .before .before .before .before .arrows-checked .ensures .0)) in
-    let apart : kindsApart (g .steps) (g .includes)
-    (g .excludes) ≡ c .before .before .before .before .before .before .before .arrows-checked .result .apart =
-    sym (c .before .before .before .before .before .before .before .arrows-checked .ensures .1) in
-    let counted = c .before .before .before .before .before .before .before .before .before .before .before .before .before in
-    simp (ap not (sym (counted .before .counts-fit .ensures)) ∙ counted .if1 .left, ap not fit ∙ c .before .before .if2 .left, ap not apart ∙ c .if3 .taken)
+    let done = c .before .before .before .before in
+    simp (counted done, ap not (fit done) ∙ c .before .before .if2 .left, ap not (apart done) ∙ c .if3 .taken)
 
 returns-4 : tie.Need-returns-4
-unfolding first setsFit
+unfolding first
 returns-4 c =
-    let g : Graph = graphOf
-    (c .before .before .before .before .before .before .before .before .before .before .before .before .before .before .before .before .before .before .args .g .now) in
-    let fit : setsFit g ≡ (c .before .before .before .before .roles-fit .result
-    && c .before .before .before .before .before .before .before .arrows-checked .result .fit) =
-    sym (ap₂ _&&_ (c .before .before .before .before .roles-fit .ensures)
-    (c .before .before .before .before .before .before .before .arrows-checked .ensures .0)) in
-    let apart : kindsApart (g .steps) (g .includes)
-    (g .excludes) ≡ c .before .before .before .before .before .before .before .arrows-checked .result .apart =
-    sym (c .before .before .before .before .before .before .before .arrows-checked .ensures .1) in
-    let counted = c .before .before .before .before .before .before .before .before .before .before .before .before .before in
-    simp (ap not (sym (counted .before .counts-fit .ensures)) ∙ counted .if1 .left, ap not fit ∙ c .before .before .if2 .left, ap not apart ∙ c .if3 .left)
+    let done = c .before .before .before .before in
+    simp (counted done, ap not (fit done) ∙ c .before .before .if2 .left, ap not (apart done) ∙ c .if3 .left)
 
 pub check-spec : {M : Type 1} → statement M
 check-spec =

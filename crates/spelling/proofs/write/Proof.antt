@@ -1,4 +1,5 @@
 -- `write`: the tests are the table's lines, in its order; the room is written only after the last. Assumes nothing.
+use Prim.Native.Nat.{_≤_}
 use mathlib.Core.Path.{sym, ap, _∙_}
 use mathlib.Core.Bool.{not}
 use borrow.Author.Needs.{needs}
@@ -21,7 +22,10 @@ returns c = record {
 }
 
 well-formed-requires : tie.Need-well-formed-requires
-well-formed-requires c κs = counts-most (c .before .before .before .args .n) (sym (c .before .counts .ensures) ∙ not-false _ (c .if1 .left))
+well-formed-requires c κs =
+    let n = c .before .before .before .args .n in
+    let most : n ≤ 64 = counts-most n (sym (c .before .counts .ensures) ∙ not-false _ (c .if1 .left)) in
+    search needs
 
 returns-2 : tie.Need-returns-2
 unfolding roomOf first

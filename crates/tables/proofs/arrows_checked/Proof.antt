@@ -1,7 +1,7 @@
 -- `tables::arrows_checked`: what the four tables name together, below and beyond the count, tells whether each keeps to it. Assumes nothing.
 use Prim.Native.Nat.{ℕ}
 use mathlib.Core.Path.{_∙_, sym, ap}
-use Rattle.tables.specs.Tables.{arrowsFit, kindsApart}
+use Rattle.tables.specs.Tables.{arrowRowsFit, kindsApart}
 use Rattle.tables.specs.Laws.{arrows-keep, shared-apart}
 use borrow.Author.Needs.{needs}
 use Rattle.tables.proofs.arrows_checked.Statement.{statement}
@@ -14,7 +14,7 @@ returns : tie.Need-returns
 returns c =
     let a = c .before .before .before .before .before .before .args in (
       c .arrows-full .ensures .0
-          ∙ ap (λ (k : ℕ). arrowsFit k (a .conditions .now) (a .responses .now) (a .includes .now) (a .excludes .now))
+          ∙ ap (λ (k : ℕ). arrowRowsFit k (a .conditions .now) (a .responses .now) (a .includes .now) (a .excludes .now))
           (sym (c .before .if1 .taken)),
       c .arrows-full .ensures .1 ∙ ap (λ (k : ℕ). kindsApart k (a .includes .now) (a .excludes .now)) (sym (c .before .if1 .taken)),
     )

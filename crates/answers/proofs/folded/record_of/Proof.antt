@@ -1,4 +1,8 @@
 -- `record_of`: a first word above 1 is no never, and any other is 0 or 1. Assumes nothing.
+use mathlib.Core.Path.{_≡_}
+use mathlib.Core.Bool.{true, false}
+use lib.ListN.{getD}
+use lib.Dec.{leb}
 use borrow.Author.Tests.{lt-leb, le-leb}
 use borrow.Author.Needs.{needs}
 use Rattle.answers.specs.Folded.{recordOf}
@@ -10,7 +14,10 @@ element-copy-out-never c = search needs
 
 returns : tie.Need-returns
 unfolding recordOf
-returns c = simp (lt-leb _ _ (c .if1 .taken))
+returns c =
+    let words = c .before .before .args .words .now in
+    let beyond : leb (getD words 0 0) 1 ≡ false = lt-leb _ _ (c .if1 .taken) in
+    simp beyond
 
 element-copy-out-t5 : tie.Need-element-copy-out-t5
 element-copy-out-t5 c = search needs
@@ -38,7 +45,11 @@ element-copy-out-t29 c = search needs
 
 returns-2 : tie.Need-returns-2
 unfolding recordOf
-returns-2 c = simp (le-leb _ _ (c .before .before .before .before .before .before .before .before .if1 .left))
+returns-2 c =
+    let tested = c .before .before .before .before .before .before .before .before in
+    let words = tested .before .before .args .words .now in
+    let told : leb (getD words 0 0) 1 ≡ true = le-leb _ _ (tested .if1 .left) in
+    simp told
 
 pub record-of-spec : {M : Type 1} → statement M
 record-of-spec =

@@ -9,7 +9,7 @@ use borrow.Author.Tests.{le-ltb, not-true, not-false}
 use Rattle.sets.specs.Sets.{has}
 use Rattle.moves.specs.declared.inner.Row.{Row}
 use Rattle.rules.specs.Graph.{Graph, graphOf}
-use Rattle.rules.specs.Answers.{known}
+use Rattle.rules.specs.Answers.{entryKnown}
 use Rattle.moves.specs.Move.{personHolds, stepHas}
 use Rattle.tables.specs.Laws.{Counted}
 use Rattle.rules.specs.Laws.{clear-counts}
@@ -24,7 +24,7 @@ returns c =
     let g : Graph = graphOf (a .g .now) in
     let b : Counted (g .steps) (g .people) (g .roles) = clear-counts g (c .before .pre) in
     let past : g .people ≤ a .e .person = omega arith in
-    let unknown : known g (a .e) ≡ false = simp (le-ltb (a .e .person) (g .people) past) in
+    let unknown : entryKnown g (a .e) ≡ false = simp (le-ltb (a .e .person) (g .people) past) in
     sym (record-unknown g (a .e) unknown)
 
 returns-2 : tie.Need-returns-2
@@ -33,7 +33,7 @@ returns-2 c =
     let g : Graph = graphOf (a .g .now) in
     let b : Counted (g .steps) (g .people) (g .roles) = clear-counts g (c .before .before .pre) in
     let past : g .steps ≤ a .e .step .0 = omega arith in
-    let unknown : known g (a .e) ≡ false = simp (le-ltb (a .e .step .0) (g .steps) past, and-none) in
+    let unknown : entryKnown g (a .e) ≡ false = simp (le-ltb (a .e .step .0) (g .steps) past, and-none) in
     sym (record-unknown g (a .e) unknown)
 
 returns-3 : tie.Need-returns-3
@@ -42,7 +42,7 @@ returns-3 c =
     let g : Graph = graphOf (a .g .now) in
     let b : Counted (g .steps) (g .people) (g .roles) = clear-counts g (c .before .before .before .pre) in
     let past : g .roles ≤ a .e .role = omega arith in
-    let unknown : known g (a .e) ≡ false = simp (le-ltb (a .e .role) (g .roles) past, and-none) in
+    let unknown : entryKnown g (a .e) ≡ false = simp (le-ltb (a .e .role) (g .roles) past, and-none) in
     sym (record-unknown g (a .e) unknown)
 
 row-at-requires : tie.Need-row-at-requires

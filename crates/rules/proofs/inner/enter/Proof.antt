@@ -5,7 +5,7 @@ use borrow.Author.Tests.{lt-ltb, le-ltb}
 use Rattle.moves.specs.declared.inner.Row.{Row}
 use Rattle.moves.specs.First.{first}
 use Rattle.rules.specs.Graph.{Graph, graphOf}
-use Rattle.rules.specs.Answers.{known}
+use Rattle.rules.specs.Answers.{entryKnown}
 use Rattle.moves.specs.Move.{moveOf, rowLines, after}
 use Rattle.rules.specs.Laws.{clear-counts, entry-unknown, entry-known}
 use native.Mathlib.Omega.{arith}
@@ -23,7 +23,7 @@ returns : tie.Need-returns
 returns c =
     let a = c .before .before .args in
     let g : Graph = graphOf (a .g .now) in
-    let unknown : known g (a .e) ≡ false = simp (le-ltb _ _ (c .if1 .taken)) in
+    let unknown : entryKnown g (a .e) ≡ false = simp (le-ltb _ _ (c .if1 .taken)) in
     sym (entry-unknown g (a .m) (a .e) unknown)
 
 element-copy-out-if2 : tie.Need-element-copy-out-if2
@@ -36,7 +36,7 @@ returns-2 : tie.Need-returns-2
 returns-2 c =
     let a = c .before .before .before .before .args in
     let g : Graph = graphOf (a .g .now) in
-    let unknown : known g (a .e) ≡ false = simp (lt-ltb _ _ (c .before .before .if1 .left), le-ltb _ _ (c .if2 .taken)) in
+    let unknown : entryKnown g (a .e) ≡ false = simp (lt-ltb _ _ (c .before .before .if1 .left), le-ltb _ _ (c .if2 .taken)) in
     sym (entry-unknown g (a .m) (a .e) unknown)
 
 element-copy-out-if3 : tie.Need-element-copy-out-if3
@@ -49,7 +49,7 @@ returns-3 : tie.Need-returns-3
 returns-3 c =
     let a = c .before .before .before .before .before .before .args in
     let g : Graph = graphOf (a .g .now) in
-    let unknown : known g (a .e) ≡ false =
+    let unknown : entryKnown g (a .e) ≡ false =
     simp (
       lt-ltb _ _ (c .before .before .before .before .if1 .left),
       lt-ltb _ _ (c .before .before .if2 .left),
@@ -73,7 +73,7 @@ returns-4 : tie.Need-returns-4
 returns-4 c =
     let a = c .before .before .before .before .before .before .before .before .args in
     let g : Graph = graphOf (a .g .now) in
-    let is : known g (a .e) ≡ true =
+    let is : entryKnown g (a .e) ≡ true =
     simp (
       lt-ltb _ _ (c .before .before .before .before .before .before .if1 .left),
       lt-ltb _ _ (c .before .before .before .before .if2 .left),
