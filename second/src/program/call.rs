@@ -55,7 +55,7 @@ fn answered(words: &Words) -> Result<Told, Vec<u8>> {
     let asked = words.options.contains(&ASKED);
     match reply {
         Err(Lines(out)) => Ok(Told { out, err: Vec::new(), status: if asked { 2 } else { 1 } }),
-        Ok(answer) if answer.never && !words.options.contains(&"--never") => Ok(held_back(answer)),
+        Ok(Answer { never: Some(why), .. }) if !words.options.contains(&"--never") => Ok(held_back(why)),
         Ok(answer) => {
             let status = (asked && !answer.yes).into();
             let Lines(out) = written(answer, &operands, words.options.contains(&"--force"))?;
@@ -92,7 +92,7 @@ fn given(operands: &Operands, from: Option<&OsStr>) -> Result<Given, Vec<u8>> {
 
 fn input(kind: &str, name: &OsStr) -> Result<Input, Vec<u8>> {
     let input = files::read(name)?;
-    if (kind == "MARKING" || kind == "FILE") && input.len() != 24 {
+    if kind == "MARKING" && input.len() != 24 {
         return Err([name.as_bytes(), b": a marking has 24 bytes"].concat());
     }
     Ok(input)
@@ -106,7 +106,7 @@ fn written(answer: Answer, operands: &Operands, force: bool) -> Result<Lines, Ve
 }
 
 /// A record that is never and was not asked for.
-fn held_back(answer: Answer) -> Told {
+fn held_back(Lines(out): Lines) -> Told {
     let why = b"fold: no marking lets this journal pass, nothing is written; --never writes the record that says so";
-    Told { out: answer.lines.0, ..complaint(why) }
+    Told { out, ..complaint(why) }
 }

@@ -57,7 +57,7 @@ pub static COMMANDS: [Command; 15] = [
     command("apply", "N RECORD MARKING [OUT]", &[], "what the record makes of the marking", records::apply),
     command("restore", "SHEET RECORD JOURNAL [OUT]", &[], "a record, then the rest of a journal", records::restore),
     command("record", "RECORD", &[], "what the record needs and does", records::record),
-    command("marking", "FILE", &[], "the three sets of a marking", markings::marking),
+    command("marking", "MARKING", &[], "the three sets of a marking", markings::marking),
     command("entries", "JOURNAL", &[], "the entries of a journal", journals::entries),
     command("lap", "SHEET STEM LAP", &["--from", "--status"], "a stem, then a lap without end", journals::lap),
     command("track", "SHEET JOURNAL", &["--from"], "the tracker along the journal", journals::track),

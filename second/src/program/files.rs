@@ -25,7 +25,7 @@ impl Deref for Input {
 
 /// A name as it is printed: it may hold any byte, and stands on one line.
 pub fn shown(name: &[u8]) -> Vec<u8> {
-    name.iter().map(|byte| if *byte < b' ' { b'?' } else { *byte }).collect()
+    name.iter().map(|byte| if byte.is_ascii_control() { b'?' } else { *byte }).collect()
 }
 
 /// The whole of a file, or of standard input for `-`, up to the most that is looked at.

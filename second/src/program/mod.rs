@@ -32,13 +32,13 @@ struct Answer {
     bytes: Vec<u8>,
     /// What --status asks for.
     yes: bool,
-    /// The bytes are a record that is never: they are written only where that is asked for.
-    never: bool,
+    /// The bytes are a record that is never, and are written only where that is asked for; otherwise these are the lines.
+    never: Option<Lines>,
 }
 
 impl Answer {
     fn new(lines: Lines) -> Self {
-        Answer { lines, bytes: Vec::new(), yes: true, never: false }
+        Answer { lines, bytes: Vec::new(), yes: true, never: None }
     }
 }
 

@@ -25,5 +25,5 @@ fn why(g: &Graph, entries: &[Entry], at: usize) -> Option<String> {
     };
     let excluded = changed(&g.excludes)?;
     let included = changed(&g.includes).is_some_and(|included| included > excluded);
-    (!included).then(|| format!("the step is excluded by entry {excluded} and not included again"))
+    (!included).then(|| format!("entry {excluded} has excluded the step, and none since has included it"))
 }

@@ -13,13 +13,9 @@ pub fn fold(given: &Given) -> Reply {
     let (g, _) = read(sheet)?;
     let folded = model::record::fold(&g, journal);
     let bytes = folded.map_err(|number| Lines::refused_for(number, journal, findings::journal(journal)))?;
-    match because(&g, journal) {
-        Some((at, why)) => {
-            let lines = Lines::default().say("never", "yes").say("because", format_args!("entry {at}: {why}"));
-            Ok(Answer { bytes: bytes.into(), never: true, ..Answer::new(lines) })
-        }
-        None => told(g.steps, bytes),
-    }
+    let never = because(&g, journal)
+        .map(|(at, why)| Lines::default().say("never", "yes").say("because", format_args!("entry {at}: {why}")));
+    Ok(Answer { never, ..told(g.steps, bytes)? })
 }
 
 pub fn join(given: &Given) -> Reply {
