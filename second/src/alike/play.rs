@@ -44,8 +44,7 @@ impl Play<'_> {
         report.ask(Call::new("entries").word(&journal.path))?;
         report.ask(call("may"))?;
         report.ask(call("track"))?;
-        report.ask(call("finished"))?;
-        report.ask(call("finished").word("--status"))?;
+        report.ask(asked(call("finished"), i))?;
         let folded = self.own(&format!("{i}.record"));
         if report.ask(call("fold").out(&folded))? == Came::Never {
             report.ask(call("fold").word("--never").out(&folded))?;
@@ -63,8 +62,7 @@ impl Play<'_> {
     fn pair(&self, report: &mut Report, i: usize, j: usize) -> io::Result<()> {
         let [first, second] = [i, j].map(|i| &self.job.journals[i].path);
         let lap = || self.call("lap").word(first).word(second);
-        report.ask(lap())?;
-        report.ask(lap().word("--status"))?;
+        report.ask(asked(lap(), i))?;
         if let Some(marking) = self.job.markings.first() {
             report.ask(lap().word("--from").word(&marking.path))?;
         }
@@ -103,6 +101,14 @@ impl Play<'_> {
     fn steps(&self) -> io::Result<String> {
         steps(&self.job.sheet.path)
     }
+}
+
+/// Every other time by status.
+fn asked(call: Call, time: usize) -> Call {
+    if time % 2 == 0 {
+        return call;
+    }
+    call.word("--status")
 }
 
 /// What a sheet says in the first place after its contents, or 3.
