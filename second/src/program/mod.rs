@@ -3,7 +3,7 @@
 mod call;
 mod commands;
 mod files;
-mod findings;
+pub(crate) mod findings;
 mod generate;
 mod help;
 mod journals;
