@@ -36,9 +36,9 @@
 extern "C" {
 #endif
 
-/* The version of these declarations. */
-#define ULZ_VERSION_MAJOR 1
-#define ULZ_VERSION_MINOR 0
+/* The version of these declarations and of the library. */
+#define ULZ_VERSION_MAJOR 0
+#define ULZ_VERSION_MINOR 2
 #define ULZ_VERSION_PATCH 0
 
 #define ULZ_JOURNAL_BYTES 65535 /* the longest journal: 21,845 entries */

@@ -1,9 +1,10 @@
+use std::ffi::{OsStr, OsString};
 use std::path::{Path, PathBuf};
 
 /// The words of a call, the file that is its standard input, and the file that it writes if it is answered.
 #[derive(Clone, Default)]
 pub struct Call {
-    pub words: Vec<String>,
+    pub words: Vec<OsString>,
     pub input: Option<PathBuf>,
     pub out: Option<String>,
 }
@@ -11,16 +12,12 @@ pub struct Call {
 impl Call {
     /// From words with spaces between.
     pub fn new(words: &str) -> Self {
-        Call { words: words.split_whitespace().map(String::from).collect(), ..Call::default() }
+        Call { words: words.split_whitespace().map(OsString::from).collect(), ..Call::default() }
     }
 
-    pub fn word(mut self, word: impl Into<String>) -> Self {
-        self.words.push(word.into());
+    pub fn word(mut self, word: impl AsRef<OsStr>) -> Self {
+        self.words.push(word.as_ref().into());
         self
-    }
-
-    pub fn file(self, file: &Path) -> Self {
-        self.word(file.to_string_lossy())
     }
 
     pub fn out(mut self, name: &str) -> Self {
@@ -31,5 +28,13 @@ impl Call {
     pub fn input(mut self, file: &Path) -> Self {
         self.input = Some(file.into());
         self
+    }
+
+    /// As it would be typed. A file of the program's own stands in its folder.
+    pub fn typed(&self) -> String {
+        let spelt = |word: &OsString| if word.is_empty() { "''".into() } else { word.to_string_lossy().into_owned() };
+        let words: Vec<_> = self.words.iter().map(spelt).collect();
+        let input = self.input.as_ref().map_or(String::new(), |file| format!(" < {}", file.display()));
+        format!("ulz {}{input}", words.join(" "))
     }
 }

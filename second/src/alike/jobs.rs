@@ -1,94 +1,113 @@
-use super::{call::Call, report::Report};
 use std::fs;
 use std::io;
 use std::path::{Path, PathBuf};
 
-/// NAME.sheet and what belongs to it: NAME.*.journal, NAME.*.marking, NAME.*.record.
+/// Where the jobs are: NAME.sheet with NAME.*.journal, NAME.*.marking and NAME.*.record in a folder; or a list whose lines name a
+/// sheet and a journal.
+pub enum Jobs<'a> {
+    Folder(&'a Path),
+    Listed(&'a Path),
+}
+
+/// A file, and how it is called in the report.
+#[derive(Clone)]
+pub struct File {
+    pub path: PathBuf,
+    pub shown: String,
+}
+
+/// A sheet and what belongs to it.
 pub struct Job {
-    name: String,
-    pub sheet: PathBuf,
-    pub journals: Vec<PathBuf>,
-    pub markings: Vec<PathBuf>,
-    pub records: Vec<PathBuf>,
+    pub sheet: File,
+    pub journals: Vec<File>,
+    pub markings: Vec<File>,
+    pub records: Vec<File>,
+}
+
+/// The jobs, and what was found beside them.
+pub struct Found {
+    pub jobs: Vec<Job>,
+    pub unused: Vec<String>,
+}
+
+impl Jobs<'_> {
+    pub fn find(&self) -> Result<Found, String> {
+        match self {
+            Jobs::Folder(folder) => of_folder(folder),
+            Jobs::Listed(list) => of_list(list),
+        }
+    }
+}
+
+fn of_folder(folder: &Path) -> Result<Found, String> {
+    let why = |why| reason(folder, why);
+    let within = folder.canonicalize().map_err(why)?;
+    let entries = fs::read_dir(&within).and_then(|all| all.map(|file| Ok(file?.path())).collect::<Result<Vec<_>, _>>());
+    let mut files: Vec<File> = entries.map_err(why)?.into_iter().map(in_folder).collect();
+    files.sort_by(|one, other| one.path.cmp(&other.path));
+    let sheets = files.iter().filter(|file| file.path.is_file() && file.shown.ends_with(".sheet"));
+    let jobs: Vec<Job> = sheets.map(|sheet| with_belongings(sheet, &files)).collect();
+    if jobs.is_empty() {
+        return Err(format!("{}: no sheet is here; a sheet is called NAME.sheet", folder.display()));
+    }
+    let used = |file: &File| jobs.iter().any(|job| job.files().any(|used| used.path == file.path));
+    let unused = files.iter().filter(|file| !used(file)).map(|file| file.shown.clone()).collect();
+    Ok(Found { jobs, unused })
+}
+
+fn in_folder(path: PathBuf) -> File {
+    let shown = path.file_name().map_or(String::new(), |name| name.to_string_lossy().into_owned());
+    File { path, shown }
+}
+
+fn with_belongings(sheet: &File, files: &[File]) -> Job {
+    let start = format!("{}.", sheet.shown.trim_end_matches(".sheet"));
+    let belonging = |kind: &str| {
+        let belongs =
+            |file: &&File| file.path.is_file() && file.shown.starts_with(&start) && file.shown.ends_with(kind);
+        files.iter().filter(belongs).cloned().collect()
+    };
+    let [journals, markings, records] = [".journal", ".marking", ".record"].map(belonging);
+    Job { sheet: sheet.clone(), journals, markings, records }
+}
+
+/// A line has two names with spaces between, or with one tab where a name has spaces; `#` begins a comment.
+fn of_list(list: &Path) -> Result<Found, String> {
+    let text = fs::read_to_string(list).map_err(|why| reason(list, why))?;
+    let mut jobs: Vec<Job> = Vec::new();
+    for (number, line) in (1..).zip(text.lines()).filter(|(_, line)| !line.trim().is_empty() && !line.starts_with('#'))
+    {
+        let at = |why: String| format!("{}, line {number}: {why}", list.display());
+        let names: Vec<&str> = match line.split_once('\t') {
+            Some((sheet, journal)) => vec![sheet, journal],
+            None => line.split_whitespace().collect(),
+        };
+        let [sheet, journal] = names[..] else { return Err(at("two names are needed, SHEET JOURNAL".into())) };
+        let (sheet, journal) = (listed(sheet).map_err(at)?, listed(journal).map_err(at)?);
+        match jobs.iter_mut().find(|job| job.sheet.path == sheet.path) {
+            Some(job) => job.journals.push(journal),
+            None => jobs.push(Job { sheet, journals: vec![journal], markings: Vec::new(), records: Vec::new() }),
+        }
+    }
+    if jobs.is_empty() {
+        return Err(format!("{}: no line names a sheet and a journal", list.display()));
+    }
+    Ok(Found { jobs, unused: Vec::new() })
+}
+
+fn listed(name: &str) -> Result<File, String> {
+    let path = Path::new(name).canonicalize().map_err(|why| reason(Path::new(name), why))?;
+    Ok(File { path, shown: name.into() })
+}
+
+/// The system's words without its number.
+pub fn reason(name: &Path, why: io::Error) -> String {
+    let why = why.to_string();
+    format!("{}: {}", name.display(), why.split(" (os error").next().unwrap_or_default())
 }
 
 impl Job {
-    /// Those of a folder, in the order of their names.
-    pub fn all(folder: &Path) -> io::Result<Vec<Job>> {
-        let mut files = fs::read_dir(folder)?.map(|file| Ok(file?.path())).collect::<io::Result<Vec<_>>>()?;
-        files.sort();
-        let name = |file: &PathBuf| file.file_name().map_or(String::new(), |name| name.to_string_lossy().into_owned());
-        let sheets = files.iter().filter_map(|file| Some((file, name(file).strip_suffix(".sheet")?.to_string())));
-        let job = |(sheet, stem): (&PathBuf, String)| {
-            let belonging = |kind: &str| {
-                let belongs =
-                    |file: &&PathBuf| name(file).starts_with(&format!("{stem}.")) && name(file).ends_with(kind);
-                files.iter().filter(belongs).cloned().collect()
-            };
-            let [journals, markings, records] = [".journal", ".marking", ".record"].map(belonging);
-            Job { name: stem, sheet: sheet.clone(), journals, markings, records }
-        };
-        Ok(sheets.map(job).collect())
-    }
-
-    /// Every command, over each file and over pairs of journals.
-    pub fn play(&self, report: &mut Report) -> io::Result<()> {
-        report.ask(self.call("check"))?;
-        report.ask(self.call("show"))?;
-        report.ask(self.call("write").out(&self.own("sheet")))?;
-        for (i, journal) in self.journals.iter().enumerate() {
-            report.ask(self.call("run").file(journal).out(&self.own(&format!("{}.marking", i + 1))))?;
-            report.ask(self.call("may").file(journal))?;
-            report.ask(self.call("fold").file(journal).out(&self.own(&format!("{}.record", i + 1))))?;
-            report.ask(self.call("track").file(journal))?;
-        }
-        for record in &self.records {
-            report.ask(Call::new("record").file(record))?;
-        }
-        for i in 0..self.journals.len() {
-            self.play_pair(report, i, (i + 1) % self.journals.len())?;
-        }
-        Ok(())
-    }
-
-    /// A journal and another: one after the other, and their records.
-    fn play_pair(&self, report: &mut Report, i: usize, j: usize) -> io::Result<()> {
-        report.ask(self.call("lap").file(&self.journals[i]).file(&self.journals[j]))?;
-        let n = self.steps()?;
-        let of_first = self.records_of(report, i);
-        for (k, record) in of_first.iter().enumerate() {
-            let out = |kind| self.own(&format!("{}.{}.{k}.{kind}", i + 1, j + 1));
-            report.ask(self.call("restore").word(record).file(&self.journals[j]).out(&out("marking")))?;
-            for other in &self.records_of(report, j) {
-                let joined = Call::new("join").word(&n).word(record).word(other).word("--force");
-                report.ask(joined.out(&out("record")))?;
-            }
-            for marking in &self.markings {
-                report
-                    .ask(Call::new("apply").word(&n).word(record).file(marking).word("--force").out(&out("applied")))?;
-            }
-        }
-        Ok(())
-    }
-
-    /// What both programs folded the journal to; and for the first journal the records that were there already.
-    fn records_of(&self, report: &Report, journal: usize) -> Vec<String> {
-        let folded = self.own(&format!("{}.record", journal + 1));
-        let given = self.records.iter().filter(|_| journal == 0).map(|file| file.to_string_lossy().into_owned());
-        report.written(&folded).then_some(folded).into_iter().chain(given).collect()
-    }
-
-    fn call(&self, command: &str) -> Call {
-        Call::new(command).file(&self.sheet)
-    }
-
-    /// The name of a file that a program writes.
-    fn own(&self, kind: &str) -> String {
-        format!("{}.{kind}", self.name)
-    }
-
-    /// What the sheet says in the first place after its contents, or 3.
-    pub fn steps(&self) -> io::Result<String> {
-        Ok(fs::read(&self.sheet)?.get(26).unwrap_or(&3).to_string())
+    fn files(&self) -> impl Iterator<Item = &File> {
+        [&self.journals, &self.markings, &self.records].into_iter().flatten().chain([&self.sheet])
     }
 }

@@ -1,30 +1,30 @@
-//! Two programs with the same commands, side by side over a folder of sheets with their journals, markings and records.
+//! Two programs with the same commands, side by side over sheets with their journals, markings and records.
 
 mod call;
 mod jobs;
+mod play;
 mod report;
 mod side;
 mod uses;
 
+pub use jobs::Jobs;
 pub use report::Report;
 
-use jobs::Job;
+use jobs::reason;
+use play::Play;
 use side::Side;
-use std::io;
 use std::path::Path;
 
-/// `ulz` is a program whose status is read off what it says; `second` tells its own. What they write goes into two folders in
-/// `work`.
-pub fn alike(ulz: &Path, second: &Path, folder: &Path, work: &Path) -> io::Result<Report> {
-    let sides = [Side::new("ulz", ulz, work, false)?, Side::new("second", second, work, true)?];
-    let mut report = Report::new(sides);
-    let jobs = Job::all(&folder.canonicalize()?)?;
-    for job in &jobs {
-        report.sheets += 1;
-        job.play(&mut report)?;
+/// What the programs write goes into two folders in `work`. An error says why nothing can be compared.
+pub fn alike(ulz: &Path, second: &Path, jobs: &Jobs, work: &Path) -> Result<Report, String> {
+    let found = jobs.find()?;
+    let side = |name, program: &Path| Side::new(name, program, work).map_err(|why| reason(program, why));
+    let mut report = Report::new([side("ulz", ulz)?, side("second", second)?]);
+    report.unused(&found.unused);
+    for (index, job) in found.jobs.iter().enumerate() {
+        let played = Play { job, index }.all(&mut report);
+        played.map_err(|why| reason(job.sheet.shown.as_ref(), why))?;
     }
-    if let Some(job) = jobs.first() {
-        uses::play(job, &mut report)?;
-    }
+    uses::play(&work.join("uses"), &mut report).map_err(|why| format!("right and wrong use: {why}"))?;
     Ok(report)
 }

@@ -1,5 +1,6 @@
 use super::{
     call::Call,
+    jobs::File,
     side::{Complaint, Heard, Side},
 };
 use std::collections::BTreeMap;
@@ -14,33 +15,53 @@ const SHOWN: usize = 30;
 
 pub struct Report {
     sides: [Side; 2],
-    pub sheets: usize,
+    sheets: usize,
+    pairs: usize,
     commands: usize,
-    pub differences: usize,
+    differences: usize,
+    /// Files of the jobs that neither program could read.
+    unread: usize,
+    not_used: usize,
     /// How often each number was given.
-    numbers: BTreeMap<u32, usize>,
+    numbers: BTreeMap<u64, usize>,
     told: String,
+}
+
+/// What came of a call, where both programs say the same.
+#[derive(Clone, PartialEq, Eq)]
+pub enum Came {
+    Different,
+    Answered(String),
+    /// The number, and the entry.
+    Refused(u64, Option<String>),
+    /// A fold that was held back.
+    Never,
+    Failed,
 }
 
 impl Report {
     pub fn new(sides: [Side; 2]) -> Self {
-        Report { sides, sheets: 0, commands: 0, differences: 0, numbers: BTreeMap::new(), told: String::new() }
+        let (sheets, pairs, commands, differences, unread, not_used) = (0, 0, 0, 0, 0, 0);
+        let (numbers, told) = (BTreeMap::new(), String::new());
+        Report { sides, sheets, pairs, commands, differences, unread, not_used, numbers, told }
     }
 
     /// Lets both programs answer at the same time, and compares.
-    pub fn ask(&mut self, call: Call) -> io::Result<()> {
+    pub fn ask(&mut self, call: Call) -> io::Result<Came> {
         let [one, other] = &self.sides;
         let (first, second) = (one.start(&call)?, other.start(&call)?);
         let heard = [one.finish(&call, first)?, other.finish(&call, second)?];
         self.commands += 1;
-        if let Some(number) = number(&heard[1].out) {
-            *self.numbers.entry(number).or_default() += 1;
+        let came = came(&heard);
+        match &came {
+            Came::Refused(number, _) => *self.numbers.entry(*number).or_default() += 1,
+            Came::Different => {
+                self.differences += 1;
+                self.tell(&call, &heard);
+            }
+            _ => {}
         }
-        if !alike(&heard) {
-            self.differences += 1;
-            self.tell(&call, &heard);
-        }
-        Ok(())
+        Ok(came)
     }
 
     /// Have both programs written this file?
@@ -48,58 +69,103 @@ impl Report {
         self.sides.iter().all(|side| side.folder.join(name).exists())
     }
 
-    fn tell(&mut self, call: &Call, heard: &[Heard; 2]) {
-        if self.differences > NAMED {
-            return;
-        }
-        let _ = writeln!(self.told, "DIFFERENT: {}", typed(call));
-        if self.differences == 1 {
-            let from = first_difference(&heard[0].out, &heard[1].out);
-            for (side, heard) in self.sides.iter().zip(heard) {
-                let _ = write!(
-                    self.told,
-                    "--- {}, status {}, {}\n{}",
-                    side.name,
-                    heard.status,
-                    rest(heard),
-                    part(heard, from)
-                );
+    pub fn unused(&mut self, files: &[String]) {
+        self.not_used = files.len();
+        files.iter().for_each(|file| self.line(format_args!("not used: {file}")));
+    }
+
+    pub fn sheet(&mut self, sheet: &File, came: Came) {
+        self.sheets += 1;
+        let said = self.said(came);
+        self.line(format_args!("sheet {}: {said}", sheet.shown));
+    }
+
+    pub fn pair(&mut self, sheet: &File, journal: &File, came: Came) {
+        self.pairs += 1;
+        let said = self.said(came);
+        self.line(format_args!("pair {} {}: {said}", sheet.shown, journal.shown));
+    }
+
+    fn said(&mut self, came: Came) -> String {
+        match came {
+            Came::Different => "DIFFERENT".into(),
+            Came::Answered(line) if line == "sheet: ok" => "ok".into(),
+            Came::Answered(line) => format!("ended, {} entries", line.trim_start_matches("entries: ")),
+            Came::Refused(number, Some(entry)) => format!("refused with {number} at {entry}"),
+            Came::Refused(number, None) => format!("refused with {number}"),
+            Came::Never | Came::Failed => {
+                self.unread += 1;
+                "NOT COMPARED, neither program could read it".into()
             }
         }
     }
 
-    /// The differences, the numbers that came, and the count.
-    pub fn text(&self) -> String {
+    fn line(&mut self, text: std::fmt::Arguments) {
+        writeln!(self.told, "{text}").expect("a string has room");
+    }
+
+    fn tell(&mut self, call: &Call, heard: &[Heard; 2]) {
+        if self.differences > NAMED {
+            return;
+        }
+        self.line(format_args!("DIFFERENT: {}", call.typed()));
+        if self.differences == 1 {
+            let texts = heard.each_ref().map(|heard| String::from_utf8_lossy(&heard.out).into_owned());
+            let from = texts[0].lines().zip(texts[1].lines()).take_while(|(a, b)| a == b).count();
+            for (i, (heard, text)) in heard.iter().zip(&texts).enumerate() {
+                let name = self.sides[i].name;
+                self.line(format_args!("--- {name}, status {}, {}\n{}", heard.status, rest(heard), part(text, from)));
+            }
+        }
+    }
+
+    /// 0 where everything was compared and is alike, 1 where something differs, 2 where something could not be compared.
+    pub fn status(&self) -> u8 {
+        match self.differences {
+            0 if self.unread > 0 || self.pairs == 0 => 2,
+            0 => 0,
+            _ => 1,
+        }
+    }
+
+    /// A line for each sheet, each pair and each file that was not used, the differences, the numbers that came, and the count.
+    pub fn text(&self) -> Vec<u8> {
         let numbers: Vec<_> = self.numbers.iter().map(|(number, times)| format!("{number} ({times})")).collect();
-        let count = format!("{} commands over {} sheets, {} differences", self.commands, self.sheets, self.differences);
-        format!("{}refused with {}\n{count}\n", self.told, numbers.join(" "))
+        let Report { sheets, pairs, commands, differences, unread, not_used, .. } = self;
+        let files = format!(
+            "{sheets} sheets, {pairs} pairs of sheet and journal, files not used: {not_used}, not read: {unread}"
+        );
+        let none = if self.pairs == 0 { ", and NO JOURNAL WAS COMPARED" } else { "" };
+        let count = format!("{commands} commands, {differences} differences{none}");
+        format!("{}refused with {}\n{files}\n{count}\n", self.told, numbers.join(" ")).into()
     }
 }
 
-/// Also in this: wrong use is one line on standard error and nothing else.
-fn alike([one, other]: &[Heard; 2]) -> bool {
-    let in_form = match one.status {
-        2 => matches!(one.err, Complaint::Line(_)) && one.out.is_empty(),
-        _ => one.err == Complaint::None,
+/// They are alike, and each keeps to the form: a complaint is one line, with status 2 and nothing else to be read; only a fold that
+/// is held back has lines and a complaint.
+fn came([one, other]: &[Heard; 2]) -> Came {
+    let text = String::from_utf8_lossy(&one.out);
+    let never = text.starts_with("never: yes\n");
+    let refused = text.lines().find_map(|line| line.strip_prefix("refused: ")?.split(' ').next()?.parse().ok());
+    let failed = one.status == 2 && refused.is_none();
+    let in_form = if failed {
+        matches!(one.err, Complaint::Line(_)) && (one.out.is_empty() || never)
+    } else {
+        one.err == Complaint::None && (0..=2).contains(&one.status)
     };
-    one == other && in_form
+    match refused {
+        _ if one != other || !in_form => Came::Different,
+        Some(number) => Came::Refused(number, refused_entry(&text)),
+        None if failed && never => Came::Never,
+        None if failed => Came::Failed,
+        None => Came::Answered(text.lines().next().unwrap_or_default().into()),
+    }
 }
 
-/// The number of a refusal, if the output has one.
-fn number(out: &str) -> Option<u32> {
-    out.lines().find_map(|line| line.strip_prefix("refused: ")?.split(' ').next()?.parse().ok())
-}
-
-/// As it would be typed. A file of the program's own stands in its folder.
-fn typed(call: &Call) -> String {
-    let words: Vec<_> = call.words.iter().map(|word| if word.is_empty() { "''" } else { word }).collect();
-    let input = call.input.as_ref().map_or(String::new(), |file| format!(" < {}", file.display()));
-    format!("ulz {}{input}", words.join(" "))
-}
-
-/// The place of the first line that differs.
-fn first_difference(one: &str, other: &str) -> usize {
-    one.lines().zip(other.lines()).take_while(|(a, b)| a == b).count()
+/// The entry that stands below a refusal.
+fn refused_entry(text: &str) -> Option<String> {
+    let mut below = text.lines().skip_while(|line| !line.starts_with("refused: "));
+    below.find(|line| line.starts_with("entry ")).map(str::to_owned)
 }
 
 /// Standard error and the written file, in a few words.
@@ -111,15 +177,15 @@ fn rest(heard: &Heard) -> String {
     format!("standard error {:?}, {file}", heard.err)
 }
 
-fn part(heard: &Heard, from: usize) -> String {
+fn part(text: &str, from: usize) -> String {
     let skipped = from.saturating_sub(SHOWN / 2);
-    let lines: Vec<_> = heard.out.lines().collect();
-    let mut text = if skipped > 0 { format!("    ... {skipped} lines alike\n") } else { String::new() };
+    let lines: Vec<_> = text.lines().collect();
+    let mut part = if skipped > 0 { format!("    ... {skipped} lines alike\n") } else { String::new() };
     for line in lines.iter().skip(skipped).take(SHOWN) {
-        let _ = writeln!(text, "    {line}");
+        part += &format!("    {line}\n");
     }
     if lines.len() > skipped + SHOWN {
-        let _ = writeln!(text, "    ... {} lines more", lines.len() - skipped - SHOWN);
+        part += &format!("    ... {} lines more", lines.len() - skipped - SHOWN);
     }
-    text
+    part
 }

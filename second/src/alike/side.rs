@@ -2,20 +2,20 @@ use super::call::Call;
 use std::fs::{self, File};
 use std::io;
 use std::path::{Path, PathBuf};
-use std::process::{Child, Command, Output, Stdio};
+use std::process::{Child, Command, Stdio};
 
 /// One of the two programs, and the folder where it runs and writes.
 pub struct Side {
+    /// What it calls itself.
     pub name: &'static str,
     program: PathBuf,
     pub folder: PathBuf,
-    tells_status: bool,
 }
 
 /// What came of a call.
 #[derive(PartialEq, Eq)]
 pub struct Heard {
-    pub out: String,
+    pub out: Vec<u8>,
     pub err: Complaint,
     pub status: i32,
     pub file: Option<Vec<u8>>,
@@ -24,22 +24,27 @@ pub struct Heard {
 #[derive(PartialEq, Eq, Debug)]
 pub enum Complaint {
     None,
-    /// One line that begins with `ulz: `, and the whole of it where its words are fixed; otherwise they are each program's own.
+    /// One line that begins with the program's name, and what follows where its words are fixed; otherwise they are each
+    /// program's own.
     Line(Option<String>),
     Other(String),
 }
 
 /// How the lines end whose words are fixed.
-const FIXED: [&str; 2] = [": exists already; --force writes over it", ": a marking has 24 bytes"];
+const FIXED: [&str; 3] = [
+    ": exists already; --force writes over it",
+    ": a marking has 24 bytes",
+    ": no marking lets this journal pass, nothing is written; --never writes the record that says so",
+];
 
 /// The status of a program that was stopped from outside.
 const STOPPED: i32 = 255;
 
 impl Side {
-    pub fn new(name: &'static str, program: &Path, work: &Path, tells_status: bool) -> io::Result<Self> {
+    pub fn new(name: &'static str, program: &Path, work: &Path) -> io::Result<Self> {
         let folder = work.join(name);
         fs::create_dir_all(&folder)?;
-        Ok(Side { name, program: program.canonicalize()?, folder, tells_status })
+        Ok(Side { name, program: program.canonicalize()?, folder })
     }
 
     pub fn start(&self, call: &Call) -> io::Result<Child> {
@@ -58,29 +63,19 @@ impl Side {
 
     pub fn finish(&self, call: &Call, child: Child) -> io::Result<Heard> {
         let output = child.wait_with_output()?;
-        let out = String::from_utf8_lossy(&output.stdout).into_owned();
         let file = call.out.as_ref().and_then(|name| fs::read(self.folder.join(name)).ok());
-        Ok(Heard { status: self.status(&output, &out), err: complaint(&output.stderr), out, file })
+        let status = output.status.code().unwrap_or(STOPPED);
+        Ok(Heard { status, err: self.complaint(&output.stderr), out: output.stdout, file })
     }
 
-    /// Where the program does not tell it, the script around it does: by standard error, then by a line of refusal.
-    fn status(&self, output: &Output, out: &str) -> i32 {
-        match output.status.code() {
-            None => STOPPED,
-            Some(status) if self.tells_status => status,
-            Some(_) if !output.stderr.is_empty() => 2,
-            Some(_) => out.lines().any(|line| line.starts_with("refused: ")).into(),
+    fn complaint(&self, err: &[u8]) -> Complaint {
+        let text = String::from_utf8_lossy(err);
+        let line = text.strip_suffix('\n').filter(|line| !line.contains('\n'));
+        let own = line.and_then(|line| line.strip_prefix(self.name)?.strip_prefix(": "));
+        match own {
+            _ if text.is_empty() => Complaint::None,
+            Some(line) => Complaint::Line(FIXED.iter().any(|end| line.ends_with(end)).then(|| line.into())),
+            None => Complaint::Other(text.into_owned()),
         }
-    }
-}
-
-fn complaint(err: &[u8]) -> Complaint {
-    let text = String::from_utf8_lossy(err);
-    match text.strip_suffix('\n') {
-        _ if text.is_empty() => Complaint::None,
-        Some(line) if line.starts_with("ulz: ") && !line.contains('\n') => {
-            Complaint::Line(FIXED.iter().any(|end| line.ends_with(end)).then(|| line.into()))
-        }
-        _ => Complaint::Other(text.into_owned()),
     }
 }

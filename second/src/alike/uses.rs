@@ -1,20 +1,28 @@
-//! Right and wrong use, over one job.
+//! Right and wrong use, over the sample job, whose files are copies: a wrong program may write over them.
 
-use super::{call::Call, jobs::Job, report::Report};
+use super::{call::Call, report::Report};
+use crate::cases::{jobs, Dice};
+use std::ffi::OsStr;
+use std::fs;
 use std::io;
+use std::os::unix::ffi::OsStrExt;
+use std::path::{Path, PathBuf};
 
 /// What each command takes; a capital letter stands for a file of the job.
-const USES: [&str; 12] = [
+const USES: [&str; 15] = [
     "check S",
     "show S",
     "write S OUT",
     "may S J",
     "run S J OUT",
+    "finished S J",
     "fold S J OUT",
     "join 3 R R OUT",
     "apply 3 R M OUT",
     "restore S R J OUT",
     "record R",
+    "marking M",
+    "entries J",
     "lap S J J",
     "track S J",
 ];
@@ -22,88 +30,139 @@ const USES: [&str; 12] = [
 /// Each replaces the number of a use that has one.
 const NUMBERS: [&str; 10] = ["0", "1", "64", "65", "255", "256", "003", "99999999999999999999", "x", "-1"];
 
-pub fn play(job: &Job, report: &mut Report) -> io::Result<()> {
-    for words in ["", "nothing", "--force", "-"] {
-        report.ask(Call::new(words))?;
+/// Each stands behind a use: known by some commands, by none, or no option at all.
+const OPTIONS: [&str; 12] = [
+    "--never",
+    "--status",
+    "--from M",
+    "--from S",
+    "--from",
+    "--from M --from M",
+    "--from not-there",
+    "--any",
+    "-x",
+    "--from=M",
+    "--",
+    "-- --force",
+];
+
+/// The folder of the copies.
+struct Job(PathBuf);
+
+pub fn play(folder: &Path, report: &mut Report) -> io::Result<()> {
+    let job = Job::make(folder)?;
+    for words in ["", "nothing", "chekc S", "--force", "-", "--", "-- check S", "--never check S", "-- S check"] {
+        report.ask(job.call(words))?;
     }
-    report.ask(Call::new("check --any"))?;
-    report.ask(Call::new("write --any").file(&job.sheet).word("any"))?;
-    report.ask(Call::new("check").word("a\nb"))?;
-    report.ask(Call::new("check").word(""))?;
-    report.ask(Call::new("check").file(&job.sheet).word(""))?;
-    report.ask(call(job, &["apply", "3", "R", "S"]))?;
+    for words in
+        ["apply 3 R S", "marking S", "marking J", "run S J J --force", "write S S --force", "fold S J S --force"]
+    {
+        report.ask(job.call(words))?;
+    }
+    for name in [&b"a\nb"[..], b"", b"\xff", b"not-there", b"with space"] {
+        report.ask(Call::new("check").word(OsStr::from_bytes(name)))?;
+        report.ask(job.call("check S").word(OsStr::from_bytes(name)))?;
+    }
+    for name in [&b"\xffodd"[..], b"two\nlines", b"-dash"] {
+        let odd = job.0.join(OsStr::from_bytes(name));
+        fs::copy(job.file("D").expect("it is there"), &odd)?;
+        report.ask(Call::new("check").word(odd))?;
+    }
     for (i, usage) in USES.iter().enumerate() {
         let words: Vec<&str> = usage.split(' ').collect();
-        let out = format!("use.{i}");
-        amounts(job, report, &words, &out)?;
-        inputs(job, report, &words)?;
-        outputs(job, report, &words, &out)?;
+        job.amounts(report, &words, &format!("use.{i}"))?;
+        job.inputs(report, &words)?;
+        job.outputs(report, &words, &format!("use.{i}"))?;
+        job.options(report, &words)?;
         for number in NUMBERS.iter().filter(|_| words[1] == "3") {
             let words: Vec<_> = words.iter().map(|word| if *word == "3" { number } else { word }).copied().collect();
-            report.ask(call(job, &words[..words.len() - 1]))?;
+            report.ask(job.call(&words[..words.len() - 1].join(" ")))?;
         }
     }
     Ok(())
 }
 
-/// Too few words, and too many.
-fn amounts(job: &Job, report: &mut Report, words: &[&str], out: &str) -> io::Result<()> {
-    for length in 1..words.len() {
-        report.ask(call(job, &words[..length]))?;
+/// The words without the file that is written.
+fn shown<'a>(words: &'a [&'a str]) -> &'a [&'a str] {
+    match words {
+        [shown @ .., "OUT"] => shown,
+        _ => words,
     }
-    let last = if words.contains(&"OUT") { &words[..words.len() - 1] } else { words };
-    report.ask(call(job, last).word(out).word("more"))
 }
 
-/// Each input from standard input, from a file that is not there, and from a folder; and two from standard input.
-fn inputs(job: &Job, report: &mut Report, words: &[&str]) -> io::Result<()> {
-    let files: Vec<usize> = (1..words.len()).filter(|i| file(job, words[*i]).is_some()).collect();
-    let shown = if words.contains(&"OUT") { &words[..words.len() - 1] } else { words };
-    for &i in &files {
-        for other in ["-", "not-there", "."] {
-            let mut changed = shown.to_vec();
-            changed[i] = other;
-            let asked = call(job, &changed);
-            let lent = file(job, words[i]).filter(|_| other == "-");
-            report.ask(match lent {
-                Some(lent) => asked.input(lent),
-                None => asked,
-            })?;
+impl Job {
+    fn make(folder: &Path) -> io::Result<Job> {
+        let jobs::Job { sheet, journals, marking, record } = jobs::make(&mut Dice::new(0, 0), 0);
+        fs::create_dir_all(folder)?;
+        let damaged = &sheet[..sheet.len() - 1];
+        for (name, bytes) in [("S", &sheet[..]), ("J", &journals[0]), ("M", &marking), ("R", &record), ("D", damaged)] {
+            fs::write(folder.join(name), bytes)?;
         }
+        Ok(Job(folder.canonicalize()?))
     }
-    let all: Vec<_> = shown.iter().map(|word| if file(job, word).is_some() { "-" } else { word }).collect();
-    report.ask(call(job, &all).input(&job.sheet))
-}
 
-/// A file that is new, one that exists, one that is written over, none, and one in a folder that is not there; or force in vain.
-fn outputs(job: &Job, report: &mut Report, words: &[&str], out: &str) -> io::Result<()> {
-    if !words.contains(&"OUT") {
-        return report.ask(call(job, words).word("--force"));
+    /// The file that a capital letter stands for.
+    fn file(&self, word: &str) -> Option<PathBuf> {
+        ["S", "J", "M", "R", "D"].contains(&word).then(|| self.0.join(word))
     }
-    let shown = call(job, &words[..words.len() - 1]);
-    report.ask(shown.clone().word("--force"))?;
-    report.ask(shown.clone().out(out))?;
-    report.ask(shown.clone().out(out))?;
-    report.ask(shown.clone().out(out).word("--force"))?;
-    report.ask(shown.clone().word("--force").out(out))?;
-    report.ask(shown.clone().word("-"))?;
-    report.ask(shown.out("not-there/out"))
-}
 
-/// The file that a capital letter stands for.
-fn file<'a>(job: &'a Job, word: &str) -> Option<&'a std::path::PathBuf> {
-    match word {
-        "S" => Some(&job.sheet),
-        "J" => job.journals.first(),
-        "M" => job.markings.first(),
-        "R" => job.records.first(),
-        _ => None,
+    fn call(&self, words: &str) -> Call {
+        words.split_whitespace().fold(Call::default(), |call, word| match self.file(word) {
+            Some(file) => call.word(file),
+            None => call.word(word),
+        })
     }
-}
 
-fn call(job: &Job, words: &[&str]) -> Call {
-    words.iter().fold(Call::default(), |call, word| match file(job, word) {
-        Some(file) => call.file(file),
-        None => call.word(*word),
-    })
+    /// Too few words, and too many.
+    fn amounts(&self, report: &mut Report, words: &[&str], out: &str) -> io::Result<()> {
+        for length in 1..words.len() {
+            report.ask(self.call(&words[..length].join(" ")))?;
+        }
+        report.ask(self.call(&shown(words).join(" ")).word(out).word("more"))?;
+        Ok(())
+    }
+
+    /// Each input from standard input, from a file that is not there, and from a folder; and two from standard input.
+    fn inputs(&self, report: &mut Report, words: &[&str]) -> io::Result<()> {
+        let shown = shown(words);
+        let files: Vec<usize> = (1..shown.len()).filter(|i| self.file(words[*i]).is_some()).collect();
+        for &i in &files {
+            for other in ["-", "not-there", "."] {
+                let mut changed = shown.to_vec();
+                changed[i] = other;
+                let asked = self.call(&changed.join(" "));
+                let lent = self.file(words[i]).filter(|_| other == "-");
+                report.ask(lent.map_or(asked.clone(), |lent| asked.input(&lent)))?;
+            }
+        }
+        let all: Vec<_> = shown.iter().map(|word| self.file(word).map_or(*word, |_| "-")).collect();
+        report.ask(self.call(&all.join(" ")).input(&self.0.join("S")))?;
+        Ok(())
+    }
+
+    /// A file that is new, one that exists, one that is written over, none, and one in a folder that is not there; or force in
+    /// vain.
+    fn outputs(&self, report: &mut Report, words: &[&str], out: &str) -> io::Result<()> {
+        let shown = self.call(&shown(words).join(" "));
+        report.ask(shown.clone().word("--force"))?;
+        if !words.contains(&"OUT") {
+            return Ok(());
+        }
+        report.ask(shown.clone().out(out))?;
+        report.ask(shown.clone().out(out))?;
+        report.ask(shown.clone().out(out).word("--force"))?;
+        report.ask(shown.clone().word("--force").out(out))?;
+        report.ask(shown.clone().word("-"))?;
+        report.ask(shown.out("not-there/out"))?;
+        Ok(())
+    }
+
+    fn options(&self, report: &mut Report, words: &[&str]) -> io::Result<()> {
+        let shown = shown(words).join(" ");
+        for option in OPTIONS {
+            report.ask(self.call(&format!("{shown} {option}")))?;
+        }
+        report.ask(self.call(&format!("-- {shown}")))?;
+        Ok(())
+    }
 }

@@ -1,92 +1,112 @@
-use super::{files, Answers, Command, Lines, COMMANDS};
+use super::{
+    commands::Command,
+    files::{self, Input},
+    help,
+    words::{operands, sorted, Operands, Words},
+    Answer, Given, Lines,
+};
+use std::ffi::{OsStr, OsString};
+use std::os::unix::ffi::OsStrExt;
 
 /// What a call has to say: on standard output, on standard error, and by its exit status, which is 0 when it is answered, 1 when
-/// it is refused with a number, and 2 for wrong use or a file that cannot be read or written.
-#[derive(Clone, PartialEq, Eq, Debug)]
+/// it is refused with a number, and 2 for anything else.
+#[derive(Clone, PartialEq, Eq, Debug, Default)]
 pub struct Told {
-    pub out: String,
-    pub err: String,
+    pub out: Vec<u8>,
+    pub err: Vec<u8>,
     pub status: u8,
 }
 
-/// The words of a call, sorted by what they are.
-#[derive(Default)]
-struct Given<'a> {
-    n: u64,
-    inputs: Vec<(&'static str, &'a str)>,
-    out: Option<&'a str>,
-    force: bool,
+const ASKED: &str = "--status";
+
+pub fn call(words: &[OsString]) -> Told {
+    sorted(words).and_then(|words| answered(&words)).unwrap_or_else(|why| complaint(&why))
 }
 
-pub fn call(words: &[String]) -> Told {
-    answered(words).unwrap_or_else(|why| {
-        // A name may hold an end of line, and there is to be one line.
-        let why = why.replace(char::is_control, "?");
-        Told { out: String::new(), err: format!("ulz: {why}\n"), status: 2 }
+/// A name may hold an end of line, and there is to be one line.
+pub fn complaint(why: &[u8]) -> Told {
+    let err = [b"second: ", &files::shown(why)[..], b"\n"].concat();
+    Told { err, status: 2, ..Told::default() }
+}
+
+fn said(text: impl Into<Vec<u8>>) -> Told {
+    Told { out: text.into(), ..Told::default() }
+}
+
+fn answered(words: &Words) -> Result<Told, Vec<u8>> {
+    let name = words.operands.first().map(|name| name.as_bytes());
+    match name {
+        _ if words.version => return Ok(said(help::VERSION)),
+        Some(b"help") => return helped(words.operands.get(1).copied()),
+        None if words.help => return helped(None),
+        None => return Err(b"no command; 'second help' lists them".to_vec()),
+        _ => {}
+    }
+    let command = named(words.operands[0])?;
+    if words.help {
+        return Ok(said(help::help_of(command)));
+    }
+    if let Some(option) = words.options.iter().find(|option| !command.has_option(option)) {
+        return Err(format!("{option}: 'second {}' takes no such option", command.name).into());
+    }
+    let operands = operands(command, words).ok_or_else(|| format!("usage: {}", command.usage()))?;
+    let given = given(&operands, words.from)?;
+    let reply = (command.answer)(&given);
+    let asked = words.options.contains(&ASKED);
+    match reply {
+        Err(Lines(out)) => Ok(Told { out, err: Vec::new(), status: if asked { 2 } else { 1 } }),
+        Ok(Answer { never: Some(why), .. }) if !words.options.contains(&"--never") => Ok(held_back(why)),
+        Ok(answer) => {
+            let status = (asked && !answer.yes).into();
+            let Lines(out) = written(answer, &operands, words.options.contains(&"--force"))?;
+            Ok(Told { out, err: Vec::new(), status })
+        }
+    }
+}
+
+fn helped(of: Option<&OsStr>) -> Result<Told, Vec<u8>> {
+    match of {
+        Some(name) => Ok(said(help::help_of(named(name)?))),
+        None => Ok(said(help::help())),
+    }
+}
+
+fn named(name: &OsStr) -> Result<&'static Command, Vec<u8>> {
+    Command::named(name.as_bytes()).ok_or_else(|| {
+        let nearest = help::nearest(name.as_bytes());
+        let hint = format!(": unknown command; did you mean '{nearest}'? 'second help' lists them");
+        [name.as_bytes(), hint.as_bytes()].concat()
     })
 }
 
-fn answered(words: &[String]) -> Result<Told, String> {
-    let names = || COMMANDS.map(|command| command.name).join(" ");
-    let (name, words) = words.split_first().ok_or_else(|| format!("use: COMMAND ARGUMENTS, one of {}", names()))?;
-    let command = COMMANDS.into_iter().find(|command| command.name == name);
-    let command = command.ok_or_else(|| format!("{name}: no command; there are {}", names()))?;
-    let given = given(&command, words).ok_or_else(|| format!("use: {name} {}", command.takes))?;
-    let files = given.inputs.iter().map(|(kind, name)| input(kind, name)).collect::<Result<Vec<_>, _>>()?;
-    let reply = match (command.answer, &files[..]) {
-        (Answers::One(answer), [one]) => answer(one),
-        (Answers::Two(answer), [one, two]) => answer(one, two),
-        (Answers::Three(answer), [one, two, three]) => answer(one, two, three),
-        (Answers::Counted(answer), [one, two]) => answer(given.n, one, two),
-        _ => unreachable!("{name} takes {}", command.takes),
-    };
-    match reply {
-        Err(Lines(out)) => Ok(Told { out, err: String::new(), status: 1 }),
-        Ok((lines, bytes)) => {
-            let Lines(out) = written(lines, &bytes, &given)?;
-            Ok(Told { out, err: String::new(), status: 0 })
+fn given(operands: &Operands, from: Option<&OsStr>) -> Result<Given, Vec<u8>> {
+    if let Some(out) = operands.out {
+        let read = operands.inputs.iter().map(|(_, name)| *name);
+        if read.chain(from).any(|name| files::same(name, out)) {
+            return Err([out.as_bytes(), b": is read by this call, and is not written over"].concat());
         }
     }
+    let files = operands.inputs.iter().map(|(kind, name)| input(kind, name)).collect::<Result<_, _>>()?;
+    Ok(Given { n: operands.n, files, from: from.map(|name| input("MARKING", name)).transpose()? })
 }
 
-/// Nothing where the words are not what the command takes.
-fn given<'a>(command: &Command, words: &'a [String]) -> Option<Given<'a>> {
-    let force = words.iter().any(|word| word == "--force");
-    let words: Vec<&str> = words.iter().map(String::as_str).filter(|word| *word != "--force").collect();
-    let takes: Vec<&'static str> = command.takes.split(' ').collect();
-    let needed = takes.iter().filter(|kind| **kind != "[OUT]").count();
-    let mut given = Given { force, ..Given::default() };
-    for (kind, word) in takes.iter().zip(&words) {
-        match *kind {
-            "N" => given.n = number(word)?,
-            "OUT" | "[OUT]" => given.out = Some(word),
-            _ => given.inputs.push((kind, word)),
-        }
+fn input(kind: &str, name: &OsStr) -> Result<Input, Vec<u8>> {
+    let input = files::read(name)?;
+    if kind == "MARKING" && input.len() != 24 {
+        return Err([name.as_bytes(), b": a marking has 24 bytes"].concat());
     }
-    let from_standard_input = given.inputs.iter().filter(|(_, name)| *name == "-").count();
-    let options = words.iter().any(|word| word.starts_with("--"));
-    let fits = (needed..=takes.len()).contains(&words.len()) && from_standard_input <= 1 && !options;
-    let names_out = given.out.map_or(!force, |name| name != "-");
-    (fits && names_out).then_some(given)
-}
-
-/// A number that is too large for a word is taken as the largest, and so refused by 2.
-fn number(word: &str) -> Option<u64> {
-    let digits = !word.is_empty() && word.bytes().all(|byte| byte.is_ascii_digit());
-    digits.then(|| word.parse().unwrap_or(u64::MAX))
-}
-
-fn input(kind: &str, name: &str) -> Result<Vec<u8>, String> {
-    let bytes = files::read(name)?;
-    if kind == "MARKING" && bytes.len() != 24 {
-        return Err(format!("{name}: a marking has 24 bytes"));
-    }
-    Ok(bytes)
+    Ok(input)
 }
 
 /// Writes the file, if there is to be one, and says so after the other lines.
-fn written(lines: Lines, bytes: &[u8], given: &Given) -> Result<Lines, String> {
-    let Some(out) = given.out else { return Ok(lines) };
-    files::write(out, bytes, given.force)?;
-    Ok(lines.say("wrote", format_args!("{} bytes", bytes.len())))
+fn written(answer: Answer, operands: &Operands, force: bool) -> Result<Lines, Vec<u8>> {
+    let Some(out) = operands.out else { return Ok(answer.lines) };
+    files::write(out, &answer.bytes, force)?;
+    Ok(answer.lines.say("wrote", format_args!("{} bytes", answer.bytes.len())))
+}
+
+/// A record that is never and was not asked for.
+fn held_back(Lines(out): Lines) -> Told {
+    let why = b"fold: no marking lets this journal pass, nothing is written; --never writes the record that says so";
+    Told { out, ..complaint(why) }
 }

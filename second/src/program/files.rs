@@ -1,23 +1,45 @@
-//! What is read and written. The error is the line that says why it cannot be.
+//! What is read and written. The error is the line that says why it cannot be: a name, and the system's words.
 
-use std::fs::{File, OpenOptions};
-use std::io::{stdin, ErrorKind, Read, Write};
+use std::ffi::OsStr;
+use std::fs::{self, File, OpenOptions};
+use std::io::{self, stdin, ErrorKind, Read, Write};
+use std::ops::Deref;
+use std::os::unix::{ffi::OsStrExt, fs::MetadataExt};
 
 /// One byte more than any input may have: what is longer still is refused by the same number.
 const MOST: u64 = 65_536;
 
+/// What was read, and by which word of the call.
+pub struct Input {
+    pub name: Vec<u8>,
+    pub bytes: Vec<u8>,
+}
+
+impl Deref for Input {
+    type Target = [u8];
+
+    fn deref(&self) -> &[u8] {
+        &self.bytes
+    }
+}
+
+/// A name as it is printed: it may hold any byte, and stands on one line.
+pub fn shown(name: &[u8]) -> Vec<u8> {
+    name.iter().map(|byte| if byte.is_ascii_control() { b'?' } else { *byte }).collect()
+}
+
 /// The whole of a file, or of standard input for `-`, up to the most that is looked at.
-pub fn read(name: &str) -> Result<Vec<u8>, String> {
+pub fn read(name: &OsStr) -> Result<Input, Vec<u8>> {
     let mut bytes = Vec::new();
-    let read = match name {
-        "-" => stdin().take(MOST).read_to_end(&mut bytes),
+    let read = match name.as_bytes() {
+        b"-" => stdin().take(MOST).read_to_end(&mut bytes),
         _ => File::open(name).and_then(|file| file.take(MOST).read_to_end(&mut bytes)),
     };
-    read.map(|_| bytes).map_err(|_| format!("{name}: cannot be read"))
+    read.map(|_| Input { name: name.as_bytes().into(), bytes }).map_err(|why| reason(name, &why))
 }
 
 /// A file that exists is left as it is, unless this is forced.
-pub fn write(name: &str, bytes: &[u8], force: bool) -> Result<(), String> {
+pub fn write(name: &OsStr, bytes: &[u8], force: bool) -> Result<(), Vec<u8>> {
     let mut how = OpenOptions::new();
     how.write(true);
     if force {
@@ -25,8 +47,21 @@ pub fn write(name: &str, bytes: &[u8], force: bool) -> Result<(), String> {
     } else {
         how.create_new(true);
     }
-    how.open(name).and_then(|mut file| file.write_all(bytes)).map_err(|error| match error.kind() {
-        ErrorKind::AlreadyExists => format!("{name}: exists already; --force writes over it"),
-        _ => format!("{name}: cannot be written"),
+    how.open(name).and_then(|mut file| file.write_all(bytes)).map_err(|why| match why.kind() {
+        ErrorKind::AlreadyExists => [name.as_bytes(), b": exists already; --force writes over it"].concat(),
+        _ => reason(name, &why),
     })
+}
+
+/// Do both name one file, by whatever way?
+pub fn same(one: &OsStr, other: &OsStr) -> bool {
+    let [Ok(one), Ok(other)] = [fs::metadata(one), fs::metadata(other)] else { return false };
+    (one.dev(), one.ino()) == (other.dev(), other.ino())
+}
+
+/// The system's words without its number.
+pub fn reason(name: &OsStr, why: &io::Error) -> Vec<u8> {
+    let why = why.to_string();
+    let words = why.split(" (os error").next().unwrap_or_default();
+    [name.as_bytes(), b": ", words.as_bytes()].concat()
 }

@@ -1,9 +1,14 @@
 //! What an answer looks like: lines `key: value`.
 
-use super::refusals;
+use super::{
+    files::{shown, Input},
+    findings::Finding,
+    refusals,
+};
 use crate::data::{Entry, Record, Track};
 use crate::model::{members, Marking};
-use std::fmt::{Display, Write};
+use std::fmt::Display;
+use std::io::Write;
 
 const SETS: [&str; 8] = [
     "NeedIn, must be included",
@@ -17,17 +22,31 @@ const SETS: [&str; 8] = [
 ];
 
 #[derive(Clone, Default, PartialEq, Eq, Debug)]
-pub struct Lines(pub String);
+pub struct Lines(pub Vec<u8>);
 
 impl Lines {
     pub fn say(mut self, key: impl Display, value: impl Display) -> Self {
-        writeln!(self.0, "{key}: {value}").expect("a string has room");
+        writeln!(self.0, "{key}: {value}").expect("a vector has room");
         self
     }
 
     /// A refusal's own line.
     pub fn refused(number: u64) -> Self {
         Lines::default().say("refused", format_args!("{number} {}", refusals::words(number)))
+    }
+
+    /// A refusal for what a file holds: its line, the file, and what made the number hold.
+    pub fn refused_for(number: u64, file: &Input, finding: Option<Finding>) -> Self {
+        let Lines(refused) = Lines::refused(number);
+        Lines([&refused[..], b"file: ", &shown(&file.name), b"\n"].concat()).finding(finding)
+    }
+
+    /// What was found, and what was expected there.
+    pub fn finding(self, finding: Option<Finding>) -> Self {
+        match finding {
+            Some(Finding { found, expected }) => self.say("found", found).say("expected", expected),
+            None => self,
+        }
     }
 
     /// The entry that was refused with this number, and the step that it waits for where that is the reason.

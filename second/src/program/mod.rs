@@ -1,50 +1,57 @@
 //! The model as a program: the commands of `ulz`, and the lines that they print.
 
 mod call;
+mod commands;
 mod files;
+pub(crate) mod findings;
 mod generate;
+mod help;
 mod journals;
 mod lines;
+mod markings;
+mod never;
 mod records;
 mod refusals;
 mod sheets;
+mod words;
 
-pub use call::{call, Told};
+pub use call::{call, complaint, Told};
 pub use generate::generate;
+#[cfg(test)]
+pub use never::because;
 
+use files::Input;
 use lines::Lines;
 
-/// The lines of an answer with the bytes for its file, if it is to have one; or the lines of a refusal.
-type Reply = Result<(Lines, Vec<u8>), Lines>;
+/// An answer, or the lines of a refusal.
+type Reply = Result<Answer, Lines>;
 
-struct Command {
-    name: &'static str,
-    /// N is a number, OUT a file that is written; the others are files that are read.
-    takes: &'static str,
-    answer: Answers,
+/// The lines of an answer, and the bytes for its file.
+struct Answer {
+    lines: Lines,
+    bytes: Vec<u8>,
+    /// What --status asks for.
+    yes: bool,
+    /// The bytes are a record that is never, and are written only where that is asked for; otherwise these are the lines.
+    never: Option<Lines>,
 }
 
-/// By what is read: files, and in the last case a number before them.
-enum Answers {
-    One(fn(&[u8]) -> Reply),
-    Two(fn(&[u8], &[u8]) -> Reply),
-    Three(fn(&[u8], &[u8], &[u8]) -> Reply),
-    Counted(fn(u64, &[u8], &[u8]) -> Reply),
+impl Answer {
+    fn new(lines: Lines) -> Self {
+        Answer { lines, bytes: Vec::new(), yes: true, never: None }
+    }
 }
 
-use Answers::{Counted, One, Three, Two};
+/// What a command is given: a number, files that were read, and the marking to start from.
+struct Given {
+    n: u64,
+    files: Vec<Input>,
+    from: Option<Input>,
+}
 
-const COMMANDS: [Command; 12] = [
-    Command { name: "check", takes: "SHEET", answer: One(sheets::check) },
-    Command { name: "show", takes: "SHEET", answer: One(sheets::show) },
-    Command { name: "write", takes: "SHEET OUT", answer: One(sheets::write) },
-    Command { name: "may", takes: "SHEET JOURNAL", answer: Two(journals::may) },
-    Command { name: "run", takes: "SHEET JOURNAL [OUT]", answer: Two(journals::run) },
-    Command { name: "fold", takes: "SHEET JOURNAL OUT", answer: Two(records::fold) },
-    Command { name: "join", takes: "N RECORD RECORD OUT", answer: Counted(records::join) },
-    Command { name: "apply", takes: "N RECORD MARKING [OUT]", answer: Counted(records::apply) },
-    Command { name: "restore", takes: "SHEET RECORD JOURNAL [OUT]", answer: Three(records::restore) },
-    Command { name: "record", takes: "RECORD", answer: One(records::record) },
-    Command { name: "lap", takes: "SHEET STEM LAP", answer: Three(journals::lap) },
-    Command { name: "track", takes: "SHEET JOURNAL", answer: Two(journals::track) },
-];
+impl Given {
+    /// As many as the command takes.
+    fn files<const COUNT: usize>(&self) -> &[Input; COUNT] {
+        self.files[..].try_into().expect("the words were counted")
+    }
+}

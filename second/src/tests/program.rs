@@ -2,10 +2,17 @@ use super::written;
 use crate::cases::{jobs, Dice};
 use crate::data::Entry;
 use crate::model;
-use crate::program::{call, Told};
+use crate::program::{because, call, Told};
 use crate::sample::{CHECK, PUBLISH, REBOOT};
+use std::ffi::OsString;
 use std::fs;
 use std::path::PathBuf;
+
+struct Heard {
+    out: String,
+    err: String,
+    status: u8,
+}
 
 /// A folder of its own for a test, with the sample job in it.
 struct Folder(PathBuf);
@@ -27,7 +34,7 @@ impl Folder {
     }
 
     /// The command, numbers and words with a dash stand for themselves; the others are files here.
-    fn call(&self, words: &str) -> Told {
+    fn call(&self, words: &str) -> Heard {
         let word = |(i, word): (usize, &str)| {
             let plain = i == 0 || word.starts_with('-') || word.starts_with(|first: char| first.is_ascii_digit());
             if plain {
@@ -36,12 +43,16 @@ impl Folder {
                 self.0.join(word).to_string_lossy().into_owned()
             }
         };
-        call(&words.split(' ').enumerate().map(word).collect::<Vec<_>>())
+        let Told { out, err, status } =
+            call(&words.split(' ').enumerate().map(word).map(OsString::from).collect::<Vec<_>>());
+        let [out, err] = [out, err].map(|text| String::from_utf8(text).expect("the names are"));
+        Heard { out, err, status }
     }
 
     fn told(&self, words: &str, status: u8, lines: &[&str]) {
         let told = self.call(words);
-        assert_eq!((told.status, told.out.lines().collect::<Vec<_>>()), (status, lines.to_vec()), "{words}");
+        let out = told.out.replace(&format!("{}/", self.0.display()), "");
+        assert_eq!((told.status, out.lines().collect::<Vec<_>>()), (status, lines.to_vec()), "{words}");
         assert_eq!(told.err.lines().count(), usize::from(status == 2), "{words}");
     }
 }
@@ -56,14 +67,16 @@ impl Drop for Folder {
 fn the_accident() {
     let folder = Folder::new("accident");
     let rebooted = ["done: 0", "due: 1", "included: 0 1"];
-    let at = |entry| [&["refused: 14 the step is not included", entry], &rebooted[..]].concat();
+    let excluded =
+        ["refused: 14 the step is not included", "file: late", "found: step 2, excluded", "expected: included"];
+    let at = |entry| [&excluded[..], &[entry], &rebooted[..]].concat();
     folder.told("run job.sheet late", 1, &at("entry 1: person 1, step 2, role 1"));
     assert_eq!(folder.call("fold job.sheet reboot record").status, 0);
     folder.told("restore job.sheet record late out", 1, &at("entry 1: person 1, step 2, role 1"));
     let checked = ["entries: 1", "done: 0 1", "due: none", "included: 0 1 2", "finished: yes"];
     folder.told("restore job.sheet record check", 0, &checked);
     folder.told("lap job.sheet check reboot", 0, &["verdict: starved", "starved step: 1"]);
-    let pass = ["refused: 14 the step is not included", "pass: 1, first lap", "entry 1: person 1, step 2, role 1"];
+    let pass = [&excluded[..], &["pass: 1, first lap", "entry 1: person 1, step 2, role 1"]].concat();
     folder.told("lap job.sheet check late", 1, &pass);
 }
 
@@ -80,8 +93,91 @@ fn files_and_wrong_use() {
     }
     folder.told("apply 3 reboot late", 2, &[]);
     folder.put("marking", &[0; 24]);
-    folder.told("apply 256 reboot marking", 1, &["refused: 2 a count is out of range"]);
+    let counted = ["refused: 2 a count is out of range", "found: N is 256", "expected: 1 to 64"];
+    folder.told("apply 256 reboot marking", 1, &counted);
     folder.told("apply -1 reboot marking", 2, &[]);
+}
+
+#[test]
+fn options_and_what_they_change() {
+    let folder = Folder::new("options");
+    folder.told(
+        "run job.sheet reboot rebooted",
+        0,
+        &["entries: 1", "done: 0", "due: 1", "included: 0 1", "finished: no", "to do: 1", "wrote: 24 bytes"],
+    );
+    folder.told("marking rebooted", 0, &["done: 0", "due: 1", "included: 0 1"]);
+    folder.told(
+        "run job.sheet check --from rebooted",
+        0,
+        &["entries: 1", "done: 0 1", "due: none", "included: 0 1 2", "finished: yes"],
+    );
+    folder.told(
+        "entries late",
+        0,
+        &["entries: 2", "entry 0: person 0, step 0, role 0", "entry 1: person 1, step 2, role 1"],
+    );
+    folder.told("finished job.sheet reboot", 0, &["finished: no", "to do: 1"]);
+    folder.told("finished job.sheet reboot --status", 1, &["finished: no", "to do: 1"]);
+    folder.told("lap --status job.sheet check reboot", 1, &["verdict: starved", "starved step: 1"]);
+    folder.put("beyond", &[&[8][..], &[0; 23]].concat());
+    let refused = "refused: 8 the marking has a step that the graph does not have";
+    let lines = [refused, "file: beyond", "found: steps 3 in done", "expected: steps 0 to 2"];
+    folder.told("may job.sheet reboot --from beyond", 1, &lines);
+    for words in [
+        "check job.sheet --status",
+        "run job.sheet reboot --never",
+        "run job.sheet reboot --from",
+        "run job.sheet reboot -x",
+        "run job.sheet reboot reboot --force",
+    ] {
+        folder.told(words, 2, &[]);
+    }
+}
+
+#[test]
+fn a_fold_that_is_never() {
+    let folder = Folder::new("never");
+    let why =
+        "because: entry 1: person 1, step 2, role 1, entry 0 has excluded the step, and none since has included it";
+    folder.told("fold job.sheet late record", 2, &["never: yes", why]);
+    assert!(!folder.0.join("record").exists());
+    let told = folder.call("fold job.sheet late record --never");
+    assert!(told.status == 0 && told.out.starts_with("never: yes\n") && told.out.ends_with("wrote: 65 bytes\n"));
+}
+
+/// A record is never exactly where an entry can be named for it.
+#[test]
+fn never_has_a_reason() {
+    let mut seen = [0; 2];
+    for case in 0..400 {
+        let job = jobs::make(&mut Dice::new(17, case), case);
+        let Ok((g, _)) = model::sheet::read(&job.sheet) else { continue };
+        for journal in &job.journals {
+            let Ok(record) = model::record::fold(&g, journal) else { continue };
+            assert_eq!(record[0] == 1, because(&g, journal).is_some(), "case {case}");
+            seen[usize::from(record[0])] += 1;
+        }
+    }
+    assert!(seen.iter().all(|times| *times > 50), "{seen:?}");
+}
+
+#[test]
+fn a_refusal_names_its_file() {
+    let folder = Folder::new("named");
+    folder.put("short", &[0; 3]);
+    folder.told(
+        "check short",
+        1,
+        &["refused: 1 not laid out as a sheet", "file: short", "found: 3 bytes", "expected: 57 to 37077"],
+    );
+    folder.put("torn", &[0; 4]);
+    let length = "refused: 7 the bytes of the journal are no multiple of 3, or too many";
+    folder.told(
+        "entries torn",
+        1,
+        &[length, "file: torn", "found: 4 bytes", "expected: a multiple of 3, at most 65535"],
+    );
 }
 
 /// `may` names exactly the entries that a move would let pass.

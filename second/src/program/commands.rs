@@ -1,0 +1,64 @@
+use super::{journals, markings, records, sheets, Given, Reply};
+
+pub struct Command {
+    pub name: &'static str,
+    /// N is a number, OUT a file that is written; the others are files that are read.
+    pub takes: &'static str,
+    /// Besides --force, which goes with OUT.
+    pub options: &'static [&'static str],
+    pub says: &'static str,
+    pub answer: fn(&Given) -> Reply,
+}
+
+impl Command {
+    pub fn named(name: &[u8]) -> Option<&'static Command> {
+        COMMANDS.iter().find(|command| command.name.as_bytes() == name)
+    }
+
+    pub fn has_option(&self, option: &str) -> bool {
+        self.options.contains(&option) || option == "--force" && self.takes.contains("OUT")
+    }
+
+    /// The command with its arguments and options.
+    pub fn usage(&self) -> String {
+        let force = if self.takes.contains("OUT") { " [--force]" } else { "" };
+        let options: String = self.options.iter().map(|option| format!(" [{}]", with_value(option))).collect();
+        format!("second {} {}{force}{options}", self.name, self.takes)
+    }
+}
+
+fn with_value(option: &str) -> &str {
+    if option == "--from" {
+        "--from MARKING"
+    } else {
+        option
+    }
+}
+
+const fn command(
+    name: &'static str,
+    takes: &'static str,
+    options: &'static [&'static str],
+    says: &'static str,
+    answer: fn(&Given) -> Reply,
+) -> Command {
+    Command { name, takes, options, says, answer }
+}
+
+pub static COMMANDS: [Command; 15] = [
+    command("check", "SHEET", &[], "is the sheet one?", sheets::check),
+    command("show", "SHEET", &[], "what the sheet holds", sheets::show),
+    command("write", "SHEET OUT", &[], "the sheet, read and written again", sheets::write),
+    command("may", "SHEET JOURNAL", &["--from"], "who may take which step after the journal", journals::may),
+    command("run", "SHEET JOURNAL [OUT]", &["--from"], "where the journal leads", journals::run),
+    command("finished", "SHEET JOURNAL", &["--status"], "is the job finished after the journal?", journals::finished),
+    command("fold", "SHEET JOURNAL OUT", &["--never"], "the journal's record", records::fold),
+    command("join", "N RECORD RECORD OUT", &[], "one record for two", records::join),
+    command("apply", "N RECORD MARKING [OUT]", &[], "what the record makes of the marking", records::apply),
+    command("restore", "SHEET RECORD JOURNAL [OUT]", &[], "a record, then the rest of a journal", records::restore),
+    command("record", "RECORD", &[], "what the record needs and does", records::record),
+    command("marking", "MARKING", &[], "the three sets of a marking", markings::marking),
+    command("entries", "JOURNAL", &[], "the entries of a journal", journals::entries),
+    command("lap", "SHEET STEM LAP", &["--from", "--status"], "a stem, then a lap without end", journals::lap),
+    command("track", "SHEET JOURNAL", &["--from"], "the tracker along the journal", journals::track),
+];
