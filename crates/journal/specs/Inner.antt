@@ -1,5 +1,5 @@
--- What the code runs by: where nothing is against graph and marking, only the entry itself is left to be tested. Nothing here has to be believed:
--- `run-from` says that it is the run. Assumes nothing.
+-- What the code runs by: where nothing is against graph and marking, only the entry itself is left to be tested. Nothing here has to be
+-- believed: `run-from` says that it is the run. Assumes nothing.
 use Prim.Native.Nat.{ℕ, _+_}
 use mathlib.Core.Path.{_≡_, refl, ap, _∙_}
 use mathlib.Core.List.{List, [], _∷_}

@@ -19,8 +19,8 @@ unfoldable pub goOn : ℕ → Marking → Move → (Marking → Ran) → Ran
 goOn k m (Move.Moved next) rest = rest next
 goOn k m (Move.Refused r back) rest = Ran.Stopped k r m
 
--- the entries are taken in turn until one is not allowed: its index, its refusal and the marking it met are the answer. Where none is refused,
--- the last marking and the count of entries are. Here of the entries from entry k on, in marking m
+-- the entries are taken in turn until one is not allowed: its index, its refusal and the marking it met are the answer. Where none is
+-- refused, the last marking and the count of entries are. Here of the entries from entry k on, in marking m
 unfoldable pub runFrom : Graph → Marking → ℕ → List Entry → Ran
 runFrom g m k [] = Ran.Ended m k
 runFrom g m k (e ∷ rest) = goOn k m (theMove g m e) (λ next. runFrom g next (k + 1) rest)

@@ -158,6 +158,10 @@ module _ {M : Type 1} (𝓤 : URA M) (H : Heap 𝓤) (A : Atoms 𝓤) (W : Given
   abbrev saidVal : Stride → Val
   saidVal r = EL.val K.the-type K′.the-laws (r .said)
 
+  -- what is said and the place, at their machine values
+  parts : (r : Stride) (u : Val) → Is S.the-row r (u ∷ []) → Is K.the-row (r .said) (saidVal r ∷ []) × (r .place < 2 ^ 64)
+  parts r u is = let p = LL.owed S.the-type S′.the-laws r (u ∷ []) is in (p .0, p .1 .0 .1)
+
   exits : (r : Stride) → r ≡ found → Is K.the-row (r .said) (saidVal r ∷ [])
       → ent 𝓤 (⋆ 𝓤 H A (‵ (fobs γ (B κ′ .coded .code (moved (r .place)))) ∷ ‵ (fbor κ (Body (mem (B κ′)) b o γ)) ∷ ‵ (flft κ q)
       ∷ (‵ (flft κ′ q′) ⊛ ‵ ftrue) ∷ [])) (Post (saidVal r))
@@ -184,13 +188,16 @@ module _ {M : Type 1} (𝓤 : URA M) (H : Heap 𝓤) (A : Atoms 𝓤) (W : Given
         (λ vs. spelt ! (B κ′) (Is (B κ′)) (shows 𝓤 H A (B κ′)) (LL.vals D L) (LL.tells D L) fullShare h vs b o $
         use1 W (‵ (fat fullShare (T′.mir erased) b o (T′.lowered h))) (W .laws .raw-at fullShare (T′.mir erased) b o (T′.lowered h)) $
         move ! (1 ∷ []) $ peeks ! (B κ′) (Is (B κ′)) (shows 𝓤 H A (B κ′)) h (T′.lowered h ∷ []) (λ was. move ! (1 ∷ 0 ∷ []) $
+        -- the journal and the place are read
         -- [the struct's cell; what a Walk owns; the open borrow; obs; auth; 'a's token; true; _4; …; _3; …; _2; …; _1; …; room for _0; …]
         assigns ! (of-opd ! (load ! (from ! (hop ! (look ! 13 refl) (fld ! refl (stop !)))) (look-in ! 0 (sub ! 0 refl (whole !)))))
         (from ! (stop !)) (init ! 9 refl (tt, LL.lawful D L 𝓤 H A W .typed h (T′.lowered h ∷ []) was .0 .1 .0)) $
         assigns ! (of-opd ! (load ! (from ! (hop ! (look ! 13 refl) (fld ! refl (stop !)))) (look-in ! 0 (sub ! 1 refl (whole !)))))
         (from ! (stop !)) (init ! 7 refl (tt, record { fits = was .1 .1 .1 .0 .1 })) $
         move ! (5 ∷ 1 ∷ []) $ use2 W (raw (StepAt 𝓤 H A at-mem run .pre to) ⊛ ‵ (Own (h .place))) (apart (was .1 .1 .1 .0 .1)) $ split ! $
-        -- [what the callee asks; what the Walk owns; the struct's cell; the open borrow; obs; auth; true; _4; …; _3; …; _2; …; _1; …; room for _0; …]
+        -- `step_at` is called
+        -- [what the callee asks; what the Walk owns; the struct's cell; the open borrow; obs; auth; true;
+        --  _4; …; _3; …; _2; …; _1; …; room for _0; …]
         calls-at ! fm (StepAt 𝓤 H A at-mem run) known to
         (and-then ! (load ! (from ! (stop !)) (look ! 9 refl)) (and-then ! (load ! (from ! (stop !)) (look ! 7 refl)) (no-more !)))
         (λ u.
@@ -199,24 +206,26 @@ module _ {M : Type 1} (𝓤 : URA M) (H : Heap 𝓤) (A : Atoms 𝓤) (W : Given
         (ensured 𝓤 H A step.ended (step.clauses 𝓤 H A at-mem run) (κ′, tt) (h .journal, (h .place, tt)) tt r))))
         (id⊢ 𝓤 _) $ await ! tt $ pick ! (λ r.
         split ! $ move ! (1 ∷ []) $ use1 W (raw (fact 𝓤 (r ≡ found))) (told r) $ heard ! (r ≡ found) (λ e. split ! $ move ! (1 ∷ []) $
-        -- [the result; the token; what the Walk owns; the struct's cell; the open borrow; obs; auth; true; _4; …; _3; …; room for _2; …; _1; …; room for _0; …]
+        -- [the result; the token; what the Walk owns; the struct's cell; the open borrow; obs; auth; true;
+        --  _4; …; _3; …; room for _2; …; _1; …; room for _0; …]
         peeks ! S.the-row (Is S.the-row) (shows 𝓤 H A S.the-row) r (u ∷ []) (λ is.
         land ! (from ! (stop !)) (init ! 12 refl (LL.lawful S.the-type S′.the-laws 𝓤 H A W .typed r _ is .0)) $
         rewrite ! 12 (λ (v : Val). ‵ (fat fullShare S′.mir l₂ 0 v)) (ap only (LL.tells S.the-type S′.the-laws r (u ∷ []) is)) refl $
+        -- the place that it gave is stored, and what it says
         assigns ! (of-opd ! (load ! (from ! (fld ! refl (stop !))) (look-in ! 12 (sub ! 1 refl (whole !)))))
         (from ! (hop ! (look ! 14 refl) (fld ! refl (stop !))))
-        (store-in ! 3 (sub ! 1 refl (whole !)) (tt, record { fits = LL.owed S.the-type S′.the-laws r (u ∷ []) is .1 .0 .1 })) $
+        (store-in ! 3 (sub ! 1 refl (whole !)) (tt, record { fits = parts r u is .1 })) $
         assigns ! (of-opd ! (load ! (from ! (fld ! refl (stop !))) (look-in ! 12 (sub ! 0 refl (whole !))))) (from ! (stop !))
-        (init ! 16 refl (EL.lawful K.the-type K′.the-laws 𝓤 H A W tt .typed (r .said) _
-        (LL.owed S.the-type S′.the-laws r (u ∷ []) is .0) .0)) $
-        drop ! $ move ! (1 ∷ []) $ use1 W (‵ (Own (r .place))) (again (r .place) (LL.owed S.the-type S′.the-laws r (u ∷ []) is .1 .0 .1)) $
+        (init ! 16 refl (EL.lawful K.the-type K′.the-laws 𝓤 H A W tt .typed (r .said) _ (parts r u is .0) .0)) $
+        -- the borrow is closed
+        drop ! $ move ! (1 ∷ []) $ use1 W (‵ (Own (r .place))) (again (r .place) (parts r u is .1)) $
         move ! (2 ∷ []) $ use1 W (‵ (cellAt fullShare (B κ′ .mir) (T′.lowered (moved (r .place)) ∷ []) b o))
         (W .laws .at-raw fullShare (T′.mir erased) b o (T′.lowered (moved (r .place)))) $
         move ! (0 ∷ 1 ∷ 3 ∷ 4 ∷ 5 ∷ []) $ closes ! tt (B κ′) (moved (r .place)) (T′.lowered (moved (r .place)) ∷ []) b o $
+        -- the locals are given back
         returns ! (look ! 13 refl) $ forget ! 5 refl $ forget ! 7 refl $ forget ! 9 refl $ forget ! 11 refl $ forget ! 13 refl $
-        move ! (13 ∷ 14 ∷ []) $ free1 ! $ move ! (11 ∷ 12 ∷ []) $ free1 ! $ move ! (9 ∷ 10 ∷ []) $ free1 ! $ move !
-        (7 ∷ 8 ∷ []) $ free1 ! $ move ! (5 ∷ 6 ∷ []) $ free1 ! $ free0 ! $
-        keep ! (0 ∷ 1 ∷ 2 ∷ 3 ∷ []) $ by ! (exits r e (LL.owed S.the-type S′.the-laws r (u ∷ []) is .0)))))))))))))
+        move ! (13 ∷ 14 ∷ 11 ∷ 12 ∷ 9 ∷ 10 ∷ 7 ∷ 8 ∷ 5 ∷ 6 ∷ []) $ free1 ! $ free1 ! $ free1 ! $ free1 ! $ free1 ! $ free0 ! $
+        keep ! (0 ∷ 1 ∷ 2 ∷ 3 ∷ []) $ by ! (exits r e (parts r u is .0)))))))))))))
 
 module _ {M : Type 1} (𝓤 : URA M) (H : Heap 𝓤) (A : Atoms 𝓤) (W : Given 𝓤 H A) (at-mem : Memory → SProp 𝓤) (run : Routine → Fun 𝓤) where
   next-walks : (C : Calls 𝓤 H) (Λ : Loops 𝓤 H) → FmC 𝓤 H (W .laws) C → Triple 𝓤 (C #journal·inner·step-at) (StepAt 𝓤 H A at-mem run)

@@ -240,6 +240,7 @@ module _ {M : Type 1} (𝓤 : URA M) (H : Heap 𝓤) (A : Atoms 𝓤) (W : Given
         pass1 ! (init ! 12 refl (shr-slice-lawful 𝓤 H A W (named 0) κ u8 .typed s (v ∷ []) p .0)) $ pass1 !
         (init ! 10 refl (tt, record { fits = n-fits })) $ pass0 ! $
         move ! (16 ∷ []) $ use1 W (raw (New 𝓤 H A at-mem run .pre to-new) ⊛ ‵ Own) goes-new $ split ! $
+        -- `new` is called
         -- [what `new` asks; what the journal owns; _7; …; _6; …; _5; …; _4; …; _3; …; _2; …; _1; …; _0; …]
         calls-at ! fm (New 𝓤 H A at-mem run) known-new to-new (and-then ! (load ! (from ! (stop !)) (look ! 14 refl)) (no-more !)) (λ u.
         use1 W (later (some (λ (r : Walk).
@@ -251,6 +252,7 @@ module _ {M : Type 1} (𝓤 : URA M) (H : Heap 𝓤) (A : Atoms 𝓤) (W : Given
         land ! (from ! (stop !)) (init ! 7 refl (LL.lawful (T.the-type (αᵉ κ)) (T′.the-laws (αᵉ κ)) 𝓤 H A W .typed r _ is .0)) $
         rewrite ! 7 (λ (w : Val). ‵ (fat fullShare (T′.mir erased) l₅ 0 w)) (ap only (LL.tells D L r (u ∷ []) is)) refl $
         rewrite ! 0 (λ (w : Val). ‵ (B κ .own r (w ∷ []))) (ap only (LL.tells D L r (u ∷ []) is)) refl $
+        -- the walk is laid down in _3 and given the place
         assigns ! (of-opd ! (load ! (from ! (stop !)) (look ! 7 refl))) (from ! (stop !))
         (init ! 11 refl (LL.lawful (T.the-type (αᵉ κ)) (T′.the-laws (αᵉ κ)) 𝓤 H A W .typed r _ (spelled r u is) .0)) $
         assigns ! (of-opd ! (load ! (from ! (stop !)) (look ! 13 refl))) (from ! (fld ! refl (stop !)))
@@ -264,7 +266,9 @@ module _ {M : Type 1} (𝓤 : URA M) (H : Heap 𝓤) (A : Atoms 𝓤) (W : Given
         use2 W (‵ (flft (a ∷ κ) qr) ⊛ raw (Rest 𝓤 H A W a qr)) (within-token 𝓤 H A W a κ qr) $ split ! $ move ! (4 ∷ []) $
         use1 W (later (some (λ (δ : GName). ‵ (RefW a (placed r) l₃ δ) ⊛ ‵ (flent (a ∷ κ) (Body (mem (B κ)) l₃ 0 δ)))))
         (lends-ref 𝓤 H A W (B κ) (named 0) (a ∷ κ) (placed r) l₃ 0) $ await ! tt $ pick ! (λ δ. split ! $
-        -- [the reference; the lender's part; the token of a ∷ κ; its rest; κ's; true; what the journal owns; _7; …; _6; …; _5; …; _4; …; _3's; _2; …; _1; …; _0; …]
+        -- `next` is called
+        -- [the reference; the lender's part; the token of a ∷ κ; its rest; κ's; true; what the journal owns;
+        --  _7; …; _6; …; _5; …; _4; …; _3's; _2; …; _1; …; _0; …]
         move ! (4 ∷ 5 ∷ []) $ join ! $ move ! (1 ∷ 3 ∷ 0 ∷ []) $ use3 W (raw (Next 𝓤 H A at-mem run .pre (to-next a (placed r) l₃ δ)))
         (goes-next a (placed r) l₃ δ) $
         calls-at ! fm (Next 𝓤 H A at-mem run) known-next (to-next a (placed r) l₃ δ)
@@ -278,7 +282,8 @@ module _ {M : Type 1} (𝓤 : URA M) (H : Heap 𝓤) (A : Atoms 𝓤) (W : Given
         ‵ (lasts next.ended (a ∷ κ, (κ, tt)) (lent (placed r) l₃ δ, tt) z) ⊛ raw (fact 𝓤 (Said (placed r) t (z .0)))))
         (id⊢ 𝓤 _) $ pick ! (λ z.
         split ! $ move ! (1 ∷ []) $ heard ! (Said (placed r) t (z .0)) (λ e′. fsplit ! $ move ! (2 ∷ []) $ split ! $ move ! (1 ∷ []) $
-        -- [the result; the tokens; the last walk; true; the lender's part; the rest; what the journal owns; _7; …; _6; …; _5; …; _4; …; _3's; _2; …; _1; …; _0; …]
+        -- [the result; the tokens; the last walk; true; the lender's part; the rest; what the journal owns;
+        --  _7; …; _6; …; _5; …; _4; …; _3's; _2; …; _1; …; _0; …]
         peeks ! K.the-row (Is K.the-row) (shows 𝓤 H A K.the-row) t (w ∷ []) (λ is′.
         land ! (from ! (stop !)) (init ! 13 refl (EL.lawful K.the-type K′.the-laws 𝓤 H A W tt .typed t _ is′ .0)) $
         rewrite ! 13 (λ (y : Val). ‵ (fat fullShare K′.mir l₄ 0 y))
@@ -288,20 +293,22 @@ module _ {M : Type 1} (𝓤 : URA M) (H : Heap 𝓤) (A : Atoms 𝓤) (W : Given
         (within-end 𝓤 H A W a κ qr) $ await ! tt $ split ! $ move ! (0 ∷ 5 ∷ 3 ∷ []) $
         use3 W (later (‵ (partAt (B κ) fullShare (z .0) l₃ 0))) (ref-back 𝓤 H A W (B κ) (a ∷ κ) δ (z .0) l₃ 0) $ await ! tt $
         use1 W (‵ (cell l₃ (z .0)) ⊛ ‵ (OwnW (z .0))) (lies-out l₃ (z .0)) $ split ! $ move ! (1 ∷ []) $
-        -- [what the walk owns; _3; κ's token; κ's and true; true; what the journal owns; _7; …; _6; …; _5; …; _4; …; _3's; _2; …; _1; …; _0; …]
+        -- [what the walk owns; _3; κ's token; κ's and true; true; what the journal owns;
+        --  _7; …; _6; …; _5; …; _4; …; _3's; _2; …; _1; …; _0; …]
         peeks ! (B κ) (Is (B κ)) (shows 𝓤 H A (B κ)) (z .0) (T′.lowered (z .0) ∷ []) (λ has.
+        -- the answer is put together with its place
         assigns ! (of-opd ! (load ! (from ! (fld ! refl (stop !))) (look-in ! 1 (sub ! 1 refl (whole !))))) (from ! (stop !))
         (init ! 6 refl (tt, record { fits = has .1 .1 .1 .0 .1 })) $
         assigns ! (agg ! (and-then ! (load ! (from ! (stop !)) (look ! 12 refl))
         (and-then ! (load ! (from ! (stop !)) (look ! 6 refl)) (no-more !)))) (from ! (stop !))
         (init ! 19 refl (LL.lawful S.the-type S′.the-laws 𝓤 H A W .typed (answer t (z .0)) _
         (answers t (z .0) (told t w is′) (has .1 .1 .1 .0 .1)) .0)) $
-        returns ! (look ! 19 refl) $ forget ! 6 refl $ forget ! 8 refl $ forget ! 10 refl $ forget ! 12 refl $ forget ! 1 refl $ forget ! 15
-        refl $ forget ! 17 refl $ forget ! 19 refl $
-        move ! (19 ∷ 20 ∷ []) $ free1 ! $ move ! (17 ∷ 18 ∷ []) $ free1 ! $ move ! (15 ∷ 16 ∷ []) $ free1 ! $ move !
-        (1 ∷ 14 ∷ []) $ free1 ! $
-        move ! (11 ∷ 12 ∷ []) $ free1 ! $ move ! (9 ∷ 10 ∷ []) $ free1 ! $ move ! (7 ∷ 8 ∷ []) $ free1 ! $ move !
-        (5 ∷ 6 ∷ []) $ free1 ! $ free0 ! $
+        -- the locals are given back
+        returns ! (look ! 19 refl) $
+        forget ! 6 refl $ forget ! 8 refl $ forget ! 10 refl $ forget ! 12 refl $ forget ! 1 refl $ forget ! 15 refl $ forget ! 17 refl $
+        forget ! 19 refl $
+        move ! (19 ∷ 20 ∷ 17 ∷ 18 ∷ 15 ∷ 16 ∷ 1 ∷ 14 ∷ 12 ∷ 13 ∷ 10 ∷ 11 ∷ 8 ∷ 9 ∷ 6 ∷ 7 ∷ []) $
+        free1 ! $ free1 ! $ free1 ! $ free1 ! $ free1 ! $ free1 ! $ free1 ! $ free1 ! $ free0 ! $
         keep ! (1 ∷ 2 ∷ 4 ∷ []) $ by !
         (exits t (z .0) (same r t (z .0) e e′) (answers t (z .0) (told t w is′) (has .1 .1 .1 .0 .1)))))))))))))))))))))))
       where

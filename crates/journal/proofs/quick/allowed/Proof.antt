@@ -1,5 +1,5 @@
--- `quick::allowed`: on a graph with nothing against it an entry names what there is wherever its role is held and had, so the counts are not asked; the
--- other tests are those of its table. Assumes nothing.
+-- `quick::allowed`: on a graph with nothing against it an entry names what there is wherever its role is held and had, so the counts are
+-- not asked; the other tests are those of its table. Assumes nothing.
 use Prim.Native.Nat.{ℕ}
 use mathlib.Core.Path.{_≡_, sym, ap, _∙_}
 use mathlib.Core.Bool.{true, false}

@@ -1,4 +1,5 @@
--- `quick::run_entries`: the run of the whole journal is at each turn of the loop the run from entry k on, in the marking at hand. Assumes nothing.
+-- `quick::run_entries`: at each turn of the loop the run of the whole journal is the run from entry k on, in the marking at hand. The turn
+-- takes that entry, or stops at it. Assumes nothing.
 use Prim.Native.Nat.{_+_, _*_, _-_, _/_, _≤_}
 use mathlib.Core.Path.{_≡_, sym, _∙_, refl, ap}
 use mathlib.Core.Bool.{true, false}

@@ -1,0 +1,2 @@
+-- Beside the proofs of the functions: what the two walks by hand share.
+mod Laid
