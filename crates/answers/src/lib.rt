@@ -3,11 +3,9 @@
 use moves::Entry;
 use moves::Marking;
 
-pub mod endless;
 pub mod folded;
 pub mod lent;
 pub mod told;
-pub mod tracks;
 
 // `finished` is 1 where no step is both due and included.
 #[repr(C)]
@@ -46,33 +44,6 @@ pub struct Walked {
     pub number: u64,
     pub ended: u64,
     pub entry: Entry,
-}
-
-// The verdict is 1 for accepted and 2 for starved, with the starved step. Index and pass are those of a refused entry.
-#[repr(C)]
-pub struct Lapped {
-    pub number: u64,
-    pub waiting: u64,
-    pub verdict: u64,
-    pub step: u64,
-    pub index: u64,
-    pub pass: u64,
-}
-
-// A state of the tracker. A flag above 0 is up.
-#[repr(C)]
-pub struct Track {
-    pub marking: Marking,
-    pub rank: u64,
-    pub flag: u64,
-}
-
-// The state after, or from 11 on the state handed in.
-#[repr(C)]
-pub struct Tracked {
-    pub number: u64,
-    pub waiting: u64,
-    pub track: Track,
 }
 
 // How many bytes are written.

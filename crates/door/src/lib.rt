@@ -18,26 +18,26 @@ ghost use Rattle.tracker.specs.Tracker.{theStart, theIdle, theStep, numberOfTra
 ghost use Rattle.answers.specs.Values.{finishedOfEnding, endedOfWalked, lengthOfSpelling};
 ghost use Rattle.answers.specs.Lent.{markingOfWords, markingWords, keptOut};
 ghost use Rattle.answers.specs.Folded.{recordIn, recordOf, spellVerdict, bytesOut, wordsOut};
-ghost use Rattle.answers.specs.Tracks.{trackIn, noTrack, trackOfTracked};
-ghost use Rattle.answers.specs.Endless.{LapTold};
+ghost use Rattle.onward.specs.Tracks.{trackIn, noTrack, trackOfTracked};
+ghost use Rattle.onward.specs.Endless.{LapTold};
 use answers::Ending;
 use answers::Kept;
-use answers::Lapped;
 use answers::Moved;
 use answers::Ran;
-use answers::Track;
-use answers::Tracked;
 use answers::Walked;
 use answers::Written;
 use answers::folded;
 use answers::lent;
 use answers::told;
-use answers::tracks;
 use moves::Entry;
 use moves::Marking;
 use moves::Move;
 use moves::NONE;
 use moves::Verdict;
+use onward::Lapped;
+use onward::Track;
+use onward::Tracked;
+use onward::tracks;
 use rules::Job;
 
 // Refusals 2, 4, 6.
@@ -123,7 +123,7 @@ pub extern "C" fn ulz_lap<'a, 'b, 'c>(
     ensures { λ r. ⌜ LapTold (graphOf (now (g .entry))) m (now (stem .entry)) (now (lap .entry)) r ⌝ }
 {
     let o = laps::lap(g, m, stem, lap);
-    answers::endless::lapped(o)
+    onward::endless::lapped(o)
 }
 
 // ---- records

@@ -2,9 +2,9 @@
 use mathlib.Core.Path.{refl}
 use borrow.Author.Needs.{needs}
 use Rattle.tracker.specs.Tracker.{numberOfTracked, stepOfTracked}
-use Rattle.answers.specs.Tracks.{trackOfTracked}
-use Rattle.answers.proofs.tracks.tracked.Statement.{statement}
-use Rattle.answers.proofs.tracks.tracked.Tie as tie
+use Rattle.onward.specs.Tracks.{trackOfTracked}
+use Rattle.onward.proofs.tracks.tracked.Statement.{statement}
+use Rattle.onward.proofs.tracks.tracked.Tie as tie
 
 enum-known-o : tie.Need-enum-known-o
 enum-known-o c = search needs

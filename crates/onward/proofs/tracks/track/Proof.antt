@@ -1,7 +1,7 @@
 -- `track`: field by field. Assumes nothing.
 use borrow.Author.Needs.{needs}
-use Rattle.answers.proofs.tracks.track.Statement.{statement}
-use Rattle.answers.proofs.tracks.track.Tie as tie
+use Rattle.onward.proofs.tracks.track.Statement.{statement}
+use Rattle.onward.proofs.tracks.track.Tie as tie
 
 rank-requires : tie.Need-rank-requires
 rank-requires c κs = search needs

@@ -1,8 +1,8 @@
 -- `track_out`: field by field; a flag is 1 or 0. Assumes nothing.
 use borrow.Author.Needs.{needs}
 use Rattle.answers.specs.Laws.{as-flag}
-use Rattle.answers.proofs.tracks.track_out.Statement.{statement}
-use Rattle.answers.proofs.tracks.track_out.Tie as tie
+use Rattle.onward.proofs.tracks.track_out.Statement.{statement}
+use Rattle.onward.proofs.tracks.track_out.Tie as tie
 
 cast-t4 : tie.Need-cast-t4
 cast-t4 c = search needs

@@ -1,8 +1,8 @@
 -- `rank`: a byte is itself, and anything beyond is no rank. Assumes nothing.
 use borrow.Author.Tests.{lt-ltb, le-ltb}
 use borrow.Author.Needs.{needs}
-use Rattle.answers.proofs.tracks.rank.Statement.{statement}
-use Rattle.answers.proofs.tracks.rank.Tie as tie
+use Rattle.onward.proofs.tracks.rank.Statement.{statement}
+use Rattle.onward.proofs.tracks.rank.Tie as tie
 
 cast-t4 : tie.Need-cast-t4
 cast-t4 c = search needs

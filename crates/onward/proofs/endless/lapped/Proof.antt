@@ -2,9 +2,9 @@
 use mathlib.Core.Path.{sym, ap}
 use borrow.Author.Needs.{needs}
 use Rattle.laps.specs.Laps.{numberOfLap, indexOfLap, passOfLap}
-use Rattle.answers.specs.Endless.{lappedOf, waitingOfLap, verdictOfLap, starvedOfLap}
-use Rattle.answers.proofs.endless.lapped.Statement.{statement}
-use Rattle.answers.proofs.endless.lapped.Tie as tie
+use Rattle.onward.specs.Endless.{lappedOf, waitingOfLap, verdictOfLap, starvedOfLap}
+use Rattle.onward.proofs.endless.lapped.Statement.{statement}
+use Rattle.onward.proofs.endless.lapped.Tie as tie
 
 enum-told : tie.Need-enum-told
 enum-told c = search needs

@@ -7,7 +7,7 @@ use Rattle.moves.specs.First.{stepOf}
 use Rattle.rules.specs.Graph.{Graph}
 use Rattle.laps.specs.declared.Lapped as answers
 use Rattle.laps.specs.Laps.{LapAnswer, numberOfLap, indexOfLap, passOfLap}
-use Rattle.answers.specs.declared.Lapped.{Lapped}
+use Rattle.onward.specs.declared.Lapped.{Lapped}
 
 -- the waiting step of 15
 unfoldable pub waitingOfLap : answers.Lapped → ℕ

@@ -1,9 +1,9 @@
 // The answer to a lap, in words.
 ghost use mathlib.Core.Path.{_≡_};
 ghost use Rattle.laps.specs.Laps.{numberOfPass};
-ghost use Rattle.answers.specs.Endless.{lappedOf};
+ghost use Rattle.onward.specs.Endless.{lappedOf};
 use crate::Lapped;
-use crate::told::said;
+use answers::told::said;
 use laps::Pass;
 
 fn pass(p: Pass) -> u64

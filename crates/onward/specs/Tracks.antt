@@ -6,7 +6,7 @@ use Rattle.moves.specs.declared.Rank.{Rank}
 use Rattle.moves.specs.Move.{noMarking}
 use Rattle.tracker.specs.declared.Track as states
 use Rattle.tracker.specs.declared.Tracked.{Tracked}
-use Rattle.answers.specs.declared.Track.{Track}
+use Rattle.onward.specs.declared.Track.{Track}
 
 -- a number beyond a byte is no step's rank, and neither is 0
 abbrev pub rankIn : ℕ → Rank

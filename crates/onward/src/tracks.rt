@@ -1,10 +1,10 @@
 // The tracker's states and answers, in words.
 ghost use mathlib.Core.Path.{_≡_};
 ghost use Rattle.tracker.specs.Tracker.{numberOfTracked, stepOfTracked};
-ghost use Rattle.answers.specs.Tracks.{rankIn, trackIn, trackOut, trackOfTracked};
+ghost use Rattle.onward.specs.Tracks.{rankIn, trackIn, trackOut, trackOfTracked};
 use crate::Track;
 use crate::Tracked;
-use crate::told::said;
+use answers::told::said;
 use moves::NONE;
 use moves::Rank;
 

@@ -1,8 +1,8 @@
 -- `pass`: each arm is the definition at its constructor. Assumes nothing.
 use borrow.Author.Needs.{needs}
 use Rattle.laps.specs.Laps.{numberOfPass}
-use Rattle.answers.proofs.endless.pass.Statement.{statement}
-use Rattle.answers.proofs.endless.pass.Tie as tie
+use Rattle.onward.proofs.endless.pass.Statement.{statement}
+use Rattle.onward.proofs.endless.pass.Tie as tie
 
 enum-told : tie.Need-enum-told
 enum-told c = search needs
