@@ -1,10 +1,10 @@
 //! Two programs with the same commands, side by side over sheets with their journals, markings and records.
 
-mod call;
+pub(crate) mod call;
 mod jobs;
 mod play;
-mod report;
-mod side;
+pub(crate) mod report;
+pub(crate) mod side;
 mod uses;
 
 pub use jobs::Jobs;

@@ -1,0 +1,96 @@
+//! Every call once or twice, against what the rules say of the sample job: 0 reboot, 1 order check, 2 publish.
+
+use ulzhartep::{apply, join, walk, Entry, Graph, Marking, Passed, Record, Refusal, Verdict, SHEET_BYTES};
+
+const START: Marking = Marking::new(0, 0, 0b111);
+const REBOOTED: Marking = Marking::new(0b001, 0b010, 0b011);
+const REBOOT: Entry = Entry { person: 0, step: 0, role: 0 };
+const CHECK: Entry = Entry { person: 0, step: 1, role: 0 };
+const PUBLISH: Entry = Entry { person: 1, step: 2, role: 1 };
+
+fn job() -> Graph {
+    let mut g = Graph::bare(3, 2, 2);
+    g.conditions[2] = 1 << 1;
+    g.responses[0] = 1 << 1;
+    g.includes[1] = 1 << 2;
+    g.excludes[0] = 1 << 2;
+    g.allows[..3].copy_from_slice(&[0b11, 0b01, 0b10]);
+    g.holds[..2].copy_from_slice(&[0b01, 0b10]);
+    g
+}
+
+fn journal(entries: &[Entry]) -> Vec<u8> {
+    entries.iter().flat_map(|e| [e.person, e.step, e.role]).collect()
+}
+
+#[test]
+fn rules() {
+    let g = job();
+    assert_eq!(g.check(), Ok(()));
+    assert_eq!(Graph::bare(65, 1, 1).check(), Err(Refusal::Counts));
+    assert_eq!(g.take(START, REBOOT), Ok(REBOOTED));
+    assert_eq!(g.take(START, PUBLISH), Err(Refusal::Waits(1)));
+    let mut kept = START;
+    assert_eq!(g.keep(&mut kept, PUBLISH), Err(Refusal::Waits(1)));
+    assert_eq!((g.keep(&mut kept, REBOOT), kept), (Ok(()), REBOOTED));
+    assert_eq!((g.finished(START), g.finished(REBOOTED)), (Ok(true), Ok(false)));
+}
+
+#[test]
+fn sheets() {
+    let (g, mut room) = (job(), [0; SHEET_BYTES]);
+    let length = g.write(START, &mut room).expect("there is room");
+    assert_eq!((length, Graph::read(&room[..length])), (75, Ok((g.clone(), START))));
+    assert_eq!(Graph::read(&room[..74]), Err(Refusal::Layout));
+    assert_eq!(g.write(START, &mut room[..74]), Err(Refusal::Room));
+}
+
+#[test]
+fn journals() {
+    let (g, day) = (job(), journal(&[REBOOT, CHECK]));
+    assert_eq!(g.run(START, &day), Ok(Passed { entries: 2, marking: Marking::new(0b011, 0, 0b111) }));
+    assert_eq!(g.run(START, &day[..4]).map_err(|stopped| stopped.refusal), Err(Refusal::Length));
+    let stopped = g.run(START, &journal(&[REBOOT, PUBLISH])).expect_err("publish waits");
+    assert_eq!((stopped.refusal, stopped.entries, stopped.marking), (Refusal::Excluded, 1, REBOOTED));
+    assert_eq!([0, 1, 2].map(|place| walk(&day, place)), [Ok(Some(REBOOT)), Ok(Some(CHECK)), Ok(None)]);
+    assert_eq!(g.lap(START, &[], &day), Ok(Verdict::Accepted));
+    assert_eq!(g.lap(START, &[], &day[..3]), Ok(Verdict::Starved(1)));
+    assert_eq!(g.lap(START, &day, &[]).map_err(|refused| refused.refusal), Err(Refusal::EmptyLap));
+    let refused = g.lap(START, &[], &journal(&[REBOOT, PUBLISH])).expect_err("publish waits");
+    assert_eq!((refused.refusal, refused.index, refused.pass), (Refusal::Excluded, 1, 1));
+}
+
+#[test]
+fn records() {
+    let (g, day) = (job(), journal(&[REBOOT, CHECK]));
+    let [first, second] = [&day[..3], &day[3..]].map(|part| g.fold(part).expect("a journal"));
+    assert_eq!(join(3, &first, &second), g.fold(&day));
+    assert_eq!(apply(3, &first, START), Ok(REBOOTED));
+    assert_eq!(apply(3, &first, Marking::default()), Err(Refusal::NotApplied));
+    let record = Record::read(3, &first).expect("a record");
+    assert_eq!((record.done, record.due_set, record.in_clear, record.write(3)), (0b001, 0b010, 0b100, Ok(first)));
+    assert_eq!(Record::read(3, &first[..64]), Err(Refusal::IllFormed));
+    assert_eq!(g.restore(&first, &day[3..], START).map(|passed| passed.marking), Ok(Marking::new(0b011, 0, 0b111)));
+}
+
+#[test]
+fn tracker() {
+    let g = job();
+    let track = g.track_start(START).expect("a marking");
+    assert_eq!((track.rank, track.flag, g.track_idle(track)), (1, 1, Ok(track)));
+    let track = g.track_step(track, REBOOT).expect("it is allowed");
+    assert_eq!((track.rank, track.flag, track.marking), (1, 0, REBOOTED));
+    assert_eq!(g.track_step(track, PUBLISH), Err(Refusal::Excluded));
+}
+
+#[test]
+fn numbers() {
+    for number in 1..=19 {
+        assert_eq!(Refusal::new(number, 3).number(), number);
+    }
+    assert_eq!(Refusal::Waits(3).to_string(), "refused: 15 the step waits for another, step 3");
+    assert_eq!(
+        (Refusal::Room.text(), Refusal::Other(0).text()),
+        ("there is too little room", "no number of this library")
+    );
+}
