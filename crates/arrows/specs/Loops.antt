@@ -286,6 +286,19 @@ module _ (n : ℕ) (conditions table : List ℕ) (k : Kept n table) (e : conditi
   pub length-body : length (arrowsBody table) ≡ 3 * countKinds 4 n conditions table
   length-body = ap length (sym body-kinds) ∙ length-kinds 4 n conditions table
 
+  -- the room that the body takes has room for the next kind
+  pub kinds-room : (kind at : ℕ) (old mid : List ℕ) (r : ℕ) → kind < 4 → Spliced (spelt (firstKinds kind n conditions table)) at old mid r
+      → r + 3 * countOf n (row (fromRows conditions table kind)) ≤ at + length (arrowsBody table)
+  kinds-room kind at old mid r h s =
+      let here : countKinds (kind + 1) n conditions table
+      ≡ countKinds kind n conditions table + countOf n (row (fromRows conditions table kind)) = kinds-count kind n conditions table in
+      let all : countKinds (kind + 1) n conditions table ≤ countKinds 4 n conditions table = kinds-mono kind n conditions table h in
+      let gone : length (spelt (firstKinds kind n conditions table)) ≡ 3 * countKinds kind n conditions table =
+      length-kinds kind n conditions table in
+      let body : length (arrowsBody table) ≡ 3 * countKinds 4 n conditions table = length-body in
+      let next : r ≡ at + length (spelt (firstKinds kind n conditions table)) = s .next in
+      omega arith
+
   pub body-most : length (arrowsBody table) ≤ 49152
   body-most =
       let l : length (arrowsBody table) ≡ 3 * countKinds 4 n conditions table = length-body in

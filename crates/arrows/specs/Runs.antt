@@ -57,7 +57,7 @@ pub record Begins (n : ℕ) (s : List ℕ) (at : ℕ) : Type 0 where
   pub from-in : arrowIn s at .from < n
   pub to-in : arrowIn s at .to < n
 
--- byte i is the end of an arrow of the body that does not stand before the one at `at`
+-- at byte i an arrow of the body ends, the one at `at` or one behind it
 pub record Reached (s : List ℕ) (at i : ℕ) : Type 0 where
   pub further : at + 3 ≤ i
   pub within : i ≤ length s

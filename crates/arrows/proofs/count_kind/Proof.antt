@@ -16,6 +16,13 @@ Inv-loop n rows found₀ a₀ found a = (a ≤ n) × (found ≡ countOf a (row r
 abbrev μ-loop : tie.MeasureT-loop
 μ-loop n rows found₀ a₀ found a = n - a
 
+-- seen from a row that is counted: the beginning of the turn, and the rows
+abbrev turn : tie.After-many Inv-loop μ-loop → tie.At-loop Inv-loop μ-loop
+turn c = c .before .before .before
+
+abbrev rows : tie.After-many Inv-loop μ-loop → ℕ → ℕ
+rows c = row (turn c .before .before .args .rows .now)
+
 loop-holds : tie.Need-loop-holds Inv-loop μ-loop
 unfolding countOf
 loop-holds c = (search needs, refl)
@@ -34,11 +41,9 @@ many-requires c κs = search needs
 
 add-found : tie.Need-add-found Inv-loop μ-loop
 add-found c =
-    let a = c .before .before .before .before .before .args in
-    let l = c .before .before .before .loop in
-    let most : countOf (l .a + 1) (row (a .rows .now)) ≤ 64 * (l .a + 1) = count-most (l .a + 1) (row (a .rows .now)) in
-    let more : countOf (l .a + 1) (row (a .rows .now)) ≡ countOf (l .a) (row (a .rows .now)) + length
-    (members (row (a .rows .now) (l .a))) = count-more (l .a) (row (a .rows .now)) in
+    let a = turn c .loop .a in
+    let most : countOf (a + 1) (rows c) ≤ 64 * (a + 1) = count-most (a + 1) (rows c) in
+    let more : countOf (a + 1) (rows c) ≡ countOf a (rows c) + length (members (rows c a)) = count-more a (rows c) in
     omega (arith, c .many .ensures)
 
 add-a : tie.Need-add-a Inv-loop μ-loop
@@ -49,9 +54,8 @@ loop-less c = search needs
 
 loop-again : tie.Need-loop-again Inv-loop μ-loop
 loop-again c =
-    let a = c .before .before .before .before .before .args in
-    let l = c .before .before .before .loop in
-    (search needs, ap₂ (λ (x y : ℕ). x + y) (l .inv .1) (c .many .ensures) ∙ sym (count-more (l .a) (row (a .rows .now))))
+    let l = turn c .loop in
+    (search needs, ap₂ (λ (x y : ℕ). x + y) (l .inv .1) (c .many .ensures) ∙ sym (count-more (l .a) (rows c)))
 
 returns : tie.Need-returns Inv-loop μ-loop
 returns c =

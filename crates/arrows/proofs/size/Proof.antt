@@ -35,26 +35,31 @@ count-kind-requires c κs =
     (c .before .loop-test .taken) in
     omega (arith, ap length (c .from-rows .ensures))
 
+-- seen from a kind that is counted: the beginning of the turn, and the start of the function
+abbrev turn : tie.After-count-kind Inv-loop μ-loop → tie.At-loop Inv-loop μ-loop
+turn c = c .before .before .before
+
+abbrev start : tie.After-count-kind Inv-loop μ-loop → tie.Start Inv-loop μ-loop
+start c = turn c .before .before .before
+
+-- how many arrows the first kinds have
+abbrev upTo : tie.After-count-kind Inv-loop μ-loop → ℕ → ℕ
+upTo c k = let a = start c .args in countKinds k (a .n) (a .conditions .now) (a .table .now)
+
 -- what is found so far, with the kind at hand, is what there is up to the next
 found-more : (c : tie.After-count-kind Inv-loop μ-loop)
-    → c .before .before .before .loop .found + c .count-kind .result
-    ≡ countKinds (c .before .before .before .loop .k + 1) (c .before .before .before .before .before .before .args .n)
-    (c .before .before .before .before .before .before .args .conditions .now)
-    (c .before .before .before .before .before .before .args .table .now)
+    → turn c .loop .found + c .count-kind .result ≡ upTo c (turn c .loop .k + 1)
 found-more c =
-    let a = c .before .before .before .before .before .before .args in
-    let l = c .before .before .before .loop in
+    let a = start c .args in
+    let l = turn c .loop in
     ap₂ (λ (x y : ℕ). x + y) (l .inv .1)
     (c .count-kind .ensures ∙ ap (λ (t : List ℕ). countOf (a .n) (row t)) (c .before .from-rows .ensures))
     ∙ sym (kinds-count (l .k) (a .n) (a .conditions .now) (a .table .now))
 
 add-found : tie.Need-add-found Inv-loop μ-loop
 add-found c =
-    let start = c .before .before .before .before .before .before in
-    let a = start .args in
-    let l = c .before .before .before .loop in
-    let most : countKinds (l .k + 1) (a .n) (a .conditions .now) (a .table .now) ≤ (l .k + 1) * 4096 =
-    kinds-most (l .k + 1) (a .n) (a .conditions .now) (a .table .now) (start .pre .0 .few) in
+    let k = turn c .loop .k + 1 in
+    let most : upTo c k ≤ k * 4096 = kinds-most k _ _ _ (start c .pre .0 .few) in
     omega (arith, found-more c)
 
 add-k : tie.Need-add-k Inv-loop μ-loop

@@ -15,17 +15,20 @@ Inv-loop s at n head first steps₀ least₀ i₀ steps least i = Collected n s 
 abbrev μ-loop : tie.MeasureT-loop
 μ-loop s at n head first steps₀ least₀ i₀ steps least i = length s - i
 
--- the start of the function, seen from the loop
+-- seen from the loop: where the head of the run was read, and the start of the function
+abbrev head : tie.At-loop Inv-loop μ-loop → tie.After-two Inv-loop μ-loop
+head l = l .before .before .before
+
 abbrev start : tie.At-loop Inv-loop μ-loop → tie.Start Inv-loop μ-loop
-start c = c .before .before .before .before .before
+start l = head l .before .before
 
 -- where the loop's body begins, the run goes on
 going : (c : tie.Then1 Inv-loop μ-loop)
     → let l = c .before .before in On (start l .args .n) (start l .args .s .now) (start l .args .at) (l .loop .i) (l .loop .least)
 going c =
     let l = c .before .before in
-    on _ _ _ (start l .pre .0) _ _ _ (λ i. l .before .before .before .before .shared-slice-known .given i .fits)
-    (l .before .before .before .two .ensures) (l .loop .inv .0 .reached) (sym (c .before .goes-on .ensures) ∙ c .if1 .taken)
+    on _ _ _ (start l .pre .0) _ _ _ (λ i. head l .before .shared-slice-known .given i .fits) (head l .two .ensures)
+    (l .loop .inv .0 .reached) (sym (c .before .goes-on .ensures) ∙ c .if1 .taken)
 
 two-requires : tie.Need-two-requires Inv-loop μ-loop
 two-requires c κs = search needs

@@ -13,6 +13,13 @@ use Rattle.journal.specs.Laws.{fits-threes, walk-length, walk-entry, wal
 use Rattle.journal.proofs.inner.step_at.Statement.{statement}
 use Rattle.journal.proofs.inner.step_at.Tie as tie
 
+-- behind the test of the length: the start of the function, and that the length fits
+abbrev start : tie.Else1 → tie.Start
+start p = p .before .before .before
+
+long : (p : tie.Else1) → lengthFits (start p .args .j .now) ≡ true
+long p = sym (p .before .length-fits .ensures) ∙ not-false _ (p .if1 .left)
+
 length-fits-requires : tie.Need-length-fits-requires
 length-fits-requires c κs = search needs
 
@@ -34,22 +41,23 @@ entry-at-requires c κs = search needs
 
 returns-2 : tie.Need-returns-2
 returns-2 c =
-    let a = c .before .before .before .before .before .args in
+    let p = c .before .before in
+    let a = start p .args in
     let j = a .j .now in
-    let long : lengthFits j ≡ true = sym (c .before .before .before .length-fits .ensures) ∙ not-false _ (c .before .before .if1 .left) in
     let room : 3 * (a .place) + 3 ≤ length j = omega arith in
-    ap (λ (e : Entry). record { said = Walked.At e; place = a .place + 1 }) (c .entry-at .ensures) ∙ sym (walk-entry j (a .place) long room)
+    ap (λ (e : Entry). record { said = Walked.At e; place = a .place + 1 }) (c .entry-at .ensures)
+    ∙ sym (walk-entry j (a .place) (long p) room)
 
 stay-requires-2 : tie.Need-stay-requires-2
 stay-requires-2 c κs = search needs
 
 returns-3 : tie.Need-returns-3
 returns-3 c =
-    let a = c .before .before .before .before .before .args in
+    let p = c .before .before in
+    let a = start p .args in
     let j = a .j .now in
-    let long : lengthFits j ≡ true = sym (c .before .before .before .length-fits .ensures) ∙ not-false _ (c .before .before .if1 .left) in
-    let past : length j ≤ 3 * (a .place) = omega (arith, fits-threes j long) in
-    c .stay2 .ensures ∙ sym (walk-end j (a .place) long past)
+    let past : length j ≤ 3 * (a .place) = omega (arith, fits-threes j (long p)) in
+    c .stay2 .ensures ∙ sym (walk-end j (a .place) (long p) past)
 
 pub step-at-spec : {M : Type 1} → statement M
 step-at-spec =

@@ -18,6 +18,31 @@ use Rattle.journal.specs.Singles.{single-asked}
 use Rattle.journal.proofs.quick.allowed.Statement.{statement}
 use Rattle.journal.proofs.quick.allowed.Tie as tie
 
+-- ---- what is known behind the tests of the numbers, and of the role
+
+abbrev start : tie.Else2 → tie.Start
+start p = p .before .before
+
+abbrev graph : tie.Else2 → Graph
+graph p = graphOf (start p .args .g .now)
+
+-- the step's row in the table of singles is the step alone
+alone : (p : tie.Else2) → let a = start p .args in row (a .singles .now) (a .e .step .0) ≡ single (a .e .step .0)
+alone p = start p .pre .1 (start p .args .e .step .0) (p .if2 .left)
+
+-- the test of the role asks the sets of the entry's person and step
+abbrev small : tie.After-has → tie.Else2
+small h = h .before .before .before
+
+asked : (h : tie.After-has)
+    → let e = start (small h) .args .e in
+    has (meet (rolesHeld (graph (small h)) (e .person)) (rolesOf (graph (small h)) (e .step .0))) (e .role) ≡ h .has .result
+asked h =
+    ap (λ (w : Row). has (meet (w .held) (w .allows)) (start (small h) .args .e .role)) (sym (h .before .before .row-at .ensures))
+    ∙ sym (h .has .ensures)
+
+-- ---- the needs
+
 returns : tie.Need-returns
 returns c =
     let a = c .before .args in
@@ -44,13 +69,8 @@ has-requires c κs =
 
 returns-3 : tie.Need-returns-3
 returns-3 c =
-    let a = c .before .before .before .before .before .before .args in
-    let g : Graph = graphOf (a .g .now) in
-    let e = a .e in
-    let out : has (meet (rolesHeld g (e .person)) (rolesOf g (e .step .0))) (e .role) ≡ false =
-    ap (λ (w : Row). has (meet (w .held) (w .allows)) (e .role)) (sym (c .before .before .before .row-at .ensures))
-    ∙ sym (c .before .has .ensures) ∙ not-true _ (c .if3 .taken) in
-    sym (without-role g (a .m) e out)
+    let p = small (c .before) in
+    sym (without-role (graph p) (start p .args .m) (start p .args .e) (asked (c .before) ∙ not-true _ (c .if3 .taken)))
 
 cast-i : tie.Need-cast-i
 cast-i c = search needs
@@ -63,40 +83,28 @@ element-copy-out-if4 c = search needs
 
 returns-4 : tie.Need-returns-4
 returns-4 c =
-    let a = c .before .before .before .before .before .before .before .before .before .args in
-    let g : Graph = graphOf (a .g .now) in
-    let e = a .e in
-    let here : row (a .singles .now) (e .step .0) ≡ single (e .step .0) =
-    c .before .before .before .before .before .before .before .before .before .pre .1 (e .step .0)
-    (c .before .before .before .before .before .before .before .if2 .left) in
-    let out : isIncluded (a .m) e ≡ false =
-    not-true _ (sym (single-asked (a .m .included) (e .step .0))
-    ∙ eq-eqb _ 0 (ap (meet (a .m .included)) (sym here) ∙ c .if4 .taken)) in
-    sym (not-included g (a .m) e out)
+    let p = small (c .before .before .before .before) in
+    let a = start p .args in
+    let out : isIncluded (a .m) (a .e) ≡ false =
+    not-true _ (sym (single-asked (a .m .included) (a .e .step .0))
+    ∙ eq-eqb _ 0 (ap (meet (a .m .included)) (sym (alone p)) ∙ c .if4 .taken)) in
+    sym (not-included (graph p) (a .m) (a .e) out)
 
 waits-requires : tie.Need-waits-requires
 waits-requires c κs = search needs
 
 returns-5 : tie.Need-returns-5
 returns-5 c =
-    let a = c .before .before .before .before .before .before .before .before .before .before .args in
-    let g : Graph = graphOf (a .g .now) in
-    let e = a .e in
-    let both : has (meet (rolesHeld g (e .person)) (rolesOf g (e .step .0))) (e .role) ≡ true =
-    ap (λ (w : Row). has (meet (w .held) (w .allows)) (e .role))
-    (sym (c .before .before .before .before .before .before .before .row-at .ensures))
-    ∙ sym (c .before .before .before .before .before .has .ensures) ∙ not-false _ (c .before .before .before .before .if3 .left) in
-    let here : row (a .singles .now) (e .step .0) ≡ single (e .step .0) =
-    c .before .before .before .before .before .before .before .before .before .before .pre .1 (e .step .0)
-    (c .before .before .before .before .before .before .before .before .if2 .left) in
-    let included : isIncluded (a .m) e ≡ true =
-    not-false _ (sym (single-asked (a .m .included) (e .step .0))
-    ∙ ne-eqb _ 0 (λ q. c .before .if4 .left (ap (meet (a .m .included)) here ∙ q))) in
+    let found = c .before .before .before .before in
+    let h = found .before in
+    let p = small h in
+    let a = start p .args in
+    let included : isIncluded (a .m) (a .e) ≡ true =
+    not-false _ (sym (single-asked (a .m .included) (a .e .step .0))
+    ∙ ne-eqb _ 0 (λ q. c .before .if4 .left (ap (meet (a .m .included)) (alone p) ∙ q))) in
     ap (λ (x : ℕ). eqb x 0)
-    (c .waits .ensures ∙ ap (λ (w : Row). waitsFor (w .conditions) (a .m))
-    (c .before .before .before .before .before .before .before .row-at .ensures))
-    ∙ sym (role-left g (a .m) e
-    (c .before .before .before .before .before .before .before .before .before .before .pre .0) both included)
+    (c .waits .ensures ∙ ap (λ (w : Row). waitsFor (w .conditions) (a .m)) (h .before .before .row-at .ensures))
+    ∙ sym (role-left (graph p) (a .m) (a .e) (start p .pre .0) (asked h ∙ not-false _ (found .if3 .left)) included)
 
 pub allowed-spec : {M : Type 1} → statement M
 allowed-spec =

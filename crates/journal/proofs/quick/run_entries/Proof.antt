@@ -1,7 +1,8 @@
 -- `quick::run_entries`: at each turn of the loop the run of the whole journal is the run from entry k on, in the marking at hand. The turn
 -- takes that entry, or stops at it. Assumes nothing.
-use Prim.Native.Nat.{_+_, _*_, _-_, _/_, _≤_}
+use Prim.Native.Nat.{ℕ, _+_, _*_, _-_, _/_, _≤_}
 use mathlib.Core.Path.{_≡_, sym, _∙_, refl, ap}
+use mathlib.Core.List.{List}
 use mathlib.Core.Bool.{true, false}
 use native.Mathlib.Omega.{arith}
 use lib.ListN.{length, drop}
@@ -27,12 +28,36 @@ use Rattle.journal.proofs.quick.run_entries.Tie as tie
 abbrev Inv-loop : tie.InvT-loop
 Inv-loop g j singles count at₀ k₀ at k =
     (count * 3 ≡ length j) × (length j ≤ 65535) × (k ≤ count)
-    × (runOn (graphOf g) at₀ 0 (entries j)
-    ≡ runOn (graphOf g) at k (entries (drop (3 * k) j)))
+    × (runOn (graphOf g) at₀ 0 (entries j) ≡ runOn (graphOf g) at k (entries (drop (3 * k) j)))
 
 abbrev μ-loop : tie.MeasureT-loop
-μ-loop g j singles count at₀ k₀ at k =
-    count - k
+μ-loop g j singles count at₀ k₀ at k = count - k
+
+-- ---- a turn of the loop
+
+abbrev start : tie.At-loop Inv-loop μ-loop → tie.Start Inv-loop μ-loop
+start l = l .before .before
+
+abbrev graph : tie.At-loop Inv-loop μ-loop → Graph
+graph l = graphOf (start l .args .g .now)
+
+abbrev journal : tie.At-loop Inv-loop μ-loop → List ℕ
+journal l = start l .args .j .now
+
+-- seen from the test of the entry: where it was read, and the beginning of the turn
+abbrev entered : tie.After-allowed Inv-loop μ-loop → tie.After-entry-at Inv-loop μ-loop
+entered p = p .before .before
+
+abbrev turn : tie.After-allowed Inv-loop μ-loop → tie.At-loop Inv-loop μ-loop
+turn p = entered p .before .before
+
+-- entry k is a whole one
+room : (p : tie.After-allowed Inv-loop μ-loop) → 3 * (turn p .loop .k) + 3 ≤ length (journal (turn p))
+room p =
+    let below = entered p .before .loop-test .taken in
+    omega arith
+
+-- ---- the needs
 
 loop-holds : tie.Need-loop-holds Inv-loop μ-loop
 loop-holds c = (search needs, search needs, search needs, refl)
@@ -41,38 +66,34 @@ entry-at-requires : tie.Need-entry-at-requires Inv-loop μ-loop
 entry-at-requires c κs = search needs
 
 allowed-requires : tie.Need-allowed-requires Inv-loop μ-loop
-allowed-requires c κs = (c .before .before .before .before .before .pre .0, singles-all)
+allowed-requires c κs = (start (c .before .before .before) .pre .0, singles-all)
 
 cast-index : tie.Need-cast-index Inv-loop μ-loop
 cast-index c = search needs
 
 refused-requires : tie.Need-refused-requires Inv-loop μ-loop
-refused-requires c κs = c .before .before .before .before .before .before .before .pre .0
+refused-requires c κs = start (turn (c .before)) .pre .0
 
 returns : tie.Need-returns Inv-loop μ-loop
 returns c =
-    let a = c .before .before .before .before .before .before .before .before .args in
-    let l = c .before .before .before .before .before .before .loop in
-    let g : Graph = graphOf (a .g .now) in
-    let j = a .j .now in
-    let room : 3 * (l .k) + 3 ≤ length j = omega arith in
+    let p = c .before .before in
+    let l = turn p .loop in
+    let g : Graph = graph (turn p) in
+    let j : List ℕ = journal (turn p) in
+    let e = entered p .entry-at .ensures in
     let out : isAllowed g (l .at) (entryAt j (l .k)) ≡ false =
-    ap (isAllowed g (l .at)) (sym (c .before .before .before .before .entry-at .ensures)) ∙ sym (c .before .before .allowed .ensures)
-    ∙ not-true _ (c .before .if1 .taken) in
+    ap (isAllowed g (l .at)) (sym e) ∙ sym (p .allowed .ensures) ∙ not-true _ (c .before .if1 .taken) in
     c .refused .ensures
-    ∙ ap (λ (e : Entry). goOn (l .k) (l .at) (entryMove g (l .at) e) (λ next. Ran.Ended next (l .k)))
-    (c .before .before .before .before .entry-at .ensures)
-    ∙ sym (l .inv .3 ∙ run-stopped g (l .at) j (l .k) room out)
+    ∙ ap (λ (x : Entry). goOn (l .k) (l .at) (entryMove g (l .at) x) (λ next. Ran.Ended next (l .k))) e
+    ∙ sym (l .inv .3 ∙ run-stopped g (l .at) j (l .k) (room p) out)
 
 taken-requires : tie.Need-taken-requires Inv-loop μ-loop
 taken-requires c κs =
-    let a = c .before .before .before .before .before .before .before .args in
-    let g : Graph = graphOf (a .g .now) in
-    let b : Counted (g .steps) (g .people) (g .roles) =
-    clear-counts g (c .before .before .before .before .before .before .before .pre .0) in
-    let n : Named g (c .before .before .before .entry-at .result) =
-    allowed-named g (c .before .before .before .before .before .loop .at) (c .before .before .before .entry-at .result)
-    (sym (c .before .allowed .ensures) ∙ not-false _ (c .if1 .left)) in
+    let p = c .before in
+    let g : Graph = graph (turn p) in
+    let e = entered p .entry-at .result in
+    let b : Counted (g .steps) (g .people) (g .roles) = clear-counts g (start (turn p) .pre .0) in
+    let n : Named g e = allowed-named g (turn p .loop .at) e (sym (p .allowed .ensures) ∙ not-false _ (c .if1 .left)) in
     (omega arith, omega arith)
 
 add-k : tie.Need-add-k Inv-loop μ-loop
@@ -83,18 +104,17 @@ loop-less c = search needs
 
 loop-again : tie.Need-loop-again Inv-loop μ-loop
 loop-again c =
-    let a = c .before .before .before .before .before .before .before .before .args in
-    let l = c .before .before .before .before .before .before .loop in
-    let g : Graph = graphOf (a .g .now) in
-    let j = a .j .now in
-    let room : 3 * (l .k) + 3 ≤ length j = omega arith in
-    let ok : isAllowed g (l .at) _ ≡ true = sym (c .before .before .allowed .ensures) ∙ not-false _ (c .before .if1 .left) in
+    let p = c .before .before in
+    let l = turn p .loop in
+    let g : Graph = graph (turn p) in
+    let j : List ℕ = journal (turn p) in
+    let ok : isAllowed g (l .at) _ ≡ true = sym (p .allowed .ensures) ∙ not-false _ (c .before .if1 .left) in
     let told : entryMove g (l .at) (entryAt j (l .k)) ≡ Move.Moved _ =
-    ap (entryMove g (l .at)) (sym (c .before .before .before .before .entry-at .ensures)) ∙ allowed-moved g (l .at) _ ok in (
+    ap (entryMove g (l .at)) (sym (entered p .entry-at .ensures)) ∙ allowed-moved g (l .at) _ ok in (
       search needs,
       search needs,
       search needs,
-      l .inv .3 ∙ run-moved g (l .at) _ j (l .k) room told
+      l .inv .3 ∙ run-moved g (l .at) _ j (l .k) (room p) told
           ∙ ap (λ (n : Marking). runOn g n (l .k + 1) (entries (drop (3 * (l .k + 1)) j))) (sym (c .taken .ensures)),
     )
 
@@ -103,13 +123,11 @@ cast-number c = search needs
 
 returns-2 : tie.Need-returns-2 Inv-loop μ-loop
 returns-2 c =
-    let a = c .before .before .before .args in
     let l = c .before .loop in
-    let g : Graph = graphOf (a .g .now) in
-    let j = a .j .now in
+    let j : List ℕ = journal (c .before) in
     let past : length j ≤ 3 * (l .k) = omega arith in
     let all : l .k ≡ length j / 3 = omega arith in
-    sym (l .inv .3 ∙ run-ended g (l .at) j (l .k) past ∙ ap (Ran.Ended (l .at)) all)
+    sym (l .inv .3 ∙ run-ended (graph (c .before)) (l .at) j (l .k) past ∙ ap (Ran.Ended (l .at)) all)
 
 pub run-entries-spec : {M : Type 1} → statement M
 run-entries-spec =
