@@ -1,5 +1,7 @@
+use std::ffi::OsStr;
 use std::fs;
 use std::io;
+use std::os::unix::ffi::OsStrExt;
 use std::path::{Path, PathBuf};
 
 /// Where the jobs are: NAME.sheet with NAME.*.journal, NAME.*.marking and NAME.*.record in a folder; or a list whose lines name a
@@ -73,15 +75,14 @@ fn with_belongings(sheet: &File, files: &[File]) -> Job {
 
 /// A line has two names with spaces between, or with one tab where a name has spaces; `#` begins a comment.
 fn of_list(list: &Path) -> Result<Found, String> {
-    let text = fs::read_to_string(list).map_err(|why| reason(list, why))?;
+    let text = fs::read(list).map_err(|why| reason(list, why))?;
     let mut jobs: Vec<Job> = Vec::new();
-    for (number, line) in (1..).zip(text.lines()).filter(|(_, line)| !line.trim().is_empty() && !line.starts_with('#'))
-    {
+    for (number, line) in (1..).zip(text.split(|byte| *byte == b'\n')) {
         let at = |why: String| format!("{}, line {number}: {why}", list.display());
-        let names: Vec<&str> = match line.split_once('\t') {
-            Some((sheet, journal)) => vec![sheet, journal],
-            None => line.split_whitespace().collect(),
-        };
+        let names = names(line);
+        if names.is_empty() || line.starts_with(b"#") {
+            continue;
+        }
         let [sheet, journal] = names[..] else { return Err(at("two names are needed, SHEET JOURNAL".into())) };
         let (sheet, journal) = (listed(sheet).map_err(at)?, listed(journal).map_err(at)?);
         match jobs.iter_mut().find(|job| job.sheet.path == sheet.path) {
@@ -95,9 +96,18 @@ fn of_list(list: &Path) -> Result<Found, String> {
     Ok(Found { jobs, unused: Vec::new() })
 }
 
-fn listed(name: &str) -> Result<File, String> {
-    let path = Path::new(name).canonicalize().map_err(|why| reason(Path::new(name), why))?;
-    Ok(File { path, shown: name.into() })
+fn names(line: &[u8]) -> Vec<&[u8]> {
+    let line = line.trim_ascii_end();
+    if line.contains(&b'\t') {
+        return line.split(|byte| *byte == b'\t').collect();
+    }
+    line.split(|byte| *byte == b' ').filter(|name| !name.is_empty()).collect()
+}
+
+fn listed(name: &[u8]) -> Result<File, String> {
+    let name = Path::new(OsStr::from_bytes(name));
+    let path = name.canonicalize().map_err(|why| reason(name, why))?;
+    Ok(File { path, shown: name.to_string_lossy().into_owned() })
 }
 
 /// The system's words without its number.
