@@ -109,7 +109,8 @@ module _ {M : Type 1} (𝓤 : URA M) (H : Heap 𝓤) (A : Atoms 𝓤) (W : Given
         (vptr b o ∷ [], (vptr l 0 ∷ [], tt))) (Callee 𝓤 H A mem′ run .pre to-stat)
     goes e =
         qed W (((‵ (flft κ q) ⊛ (‵ (flft (α ∷ []) fullShare) ⊛ ‵ ftrue)) ⊛
-        ‵ (owns (ShrRef (named 0) κ Path ∷ MutRef (named 1) (α ∷ []) T.the-row ∷ []) (x, (z, tt)) (vptr b o ∷ [], (vptr l 0 ∷ [], tt)))) ∷ []) ∵
+        ‵ (owns (ShrRef (named 0) κ Path ∷ MutRef (named 1) (α ∷ []) T.the-row ∷ []) (x, (z, tt))
+        (vptr b o ∷ [], (vptr l 0 ∷ [], tt)))) ∷ []) ∵
         says ! e $ done !
 
     last-of : (r : ℤ) → ent 𝓤 (ensured 𝓤 H A stat.ended (stat.clauses 𝓤 H A mem′ run) (κ, (α ∷ [], tt)) (x, (z, tt)) tt r)
