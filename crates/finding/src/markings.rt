@@ -1,42 +1,25 @@
 // Number 8, and 4 of a first marking: the first set of a marking that names steps beyond the count.
 ghost use mathlib.Core.Path.{_≡_};
+ghost use Prim.Native.Nat.{_≤_};
+ghost use Rattle.finding.specs.Found.{strayOf};
+use crate::parts::Held;
 use crate::parts::beyond;
+use crate::parts::first_of;
 use crate::words::say_known;
 use crate::words::say_steps;
 use lines::say::Page;
 use lines::say::say;
 use moves::Marking;
 
-// Which set of a marking, 0 to 2 for done, due, included, and its steps beyond the count; none where all fit.
-pub struct Stray {
-    pub set: u8,
-    pub steps: u64,
+// The steps beyond n of the first of done, due, included that has such.
+pub fn first_stray(n: u64, m: Marking) -> Held
+    requires { ⌜ n ≤ 64 ⌝ }
+    ensures { λ r. ⌜ r ≡ strayOf n m ⌝ }
+{
+    first_of(beyond(n, m.done), beyond(n, m.due), beyond(n, m.included))
 }
 
-const NOTHING: Stray = Stray { set: 0, steps: 0 };
-
-pub fn first_stray(n: u64, m: Marking) -> Stray {
-    if 64 < n {
-        return NOTHING;
-    }
-    let done = beyond(n, m.done);
-    if done != 0 {
-        return Stray {
-            set: 0,
-            steps: done,
-        };
-    }
-    let due = beyond(n, m.due);
-    if due != 0 {
-        return Stray { set: 1, steps: due };
-    }
-    Stray {
-        set: 2,
-        steps: beyond(n, m.included),
-    }
-}
-
-pub fn say_beyond(page: &mut Page, x: Stray, of: &[u8], n: u64) {
+pub fn say_beyond(page: &mut Page, x: Held, of: &[u8], n: u64) {
     let set = x.set;
     say_steps(page, x.steps);
     match set {
@@ -49,5 +32,8 @@ pub fn say_beyond(page: &mut Page, x: Stray, of: &[u8], n: u64) {
 }
 
 pub fn say_found(page: &mut Page, steps: u64, m: Marking) {
+    if 64 < steps {
+        return;
+    }
     say_beyond(page, first_stray(steps, m), b"", steps);
 }

@@ -1,7 +1,11 @@
 // Numbers 10 and 16 of records, and 2 of a stated number of steps.
+ghost use mathlib.Core.Path.{_≡_};
+ghost use Rattle.finding.specs.Found.{lackOf};
+use crate::parts::Held;
 use crate::parts::beyond;
 use crate::parts::byte;
 use crate::parts::eight;
+use crate::parts::first_of;
 use crate::parts::lacking;
 use crate::words::say_found as say_it;
 use crate::words::say_known;
@@ -15,18 +19,13 @@ use lines::say::say_number;
 use moves::Marking;
 use records::Record;
 
-// The sets of a record are numbered from 0 in the order of its bytes.
-pub struct Held {
-    pub set: u8,
-    pub steps: u64,
-}
-
 // A pair of sets, by its place in the order of the rule, and the steps that both have.
 pub struct Clash {
     pub pair: u8,
     pub steps: u64,
 }
 
+// The sets are numbered from 0 in the order of the bytes.
 fn set(s: &[u8], i: u8) -> u64 {
     eight(s, 1 + 8 * (i as usize))
 }
@@ -160,9 +159,34 @@ pub fn say_count_of(page: &mut Page, n: u64) {
     say_wanted(page, b"1 to 64");
 }
 
-// Of the steps that must be excluded or done, those that are neither.
-fn open(r: Record, m: Marking) -> u64 {
-    lacking(r.needout & m.included, m.done)
+// The first need that the marking does not meet.
+pub fn first_lack(r: Record, m: Marking) -> Held
+    ensures { λ x. ⌜ x ≡ lackOf r m ⌝ }
+{
+    first_of(
+        lacking(r.needin, m.included),
+        lacking(r.needex, m.done),
+        lacking(r.needout & m.included, m.done),
+    )
+}
+
+fn say_lack(page: &mut Page, x: Held) {
+    let need = x.set;
+    say_steps(page, x.steps);
+    match need {
+        0 => {
+            say(page, b", not included");
+            say_wanted(page, b"included, by NeedIn");
+        }
+        1 => {
+            say(page, b", not done");
+            say_wanted(page, b"done, by NeedEx");
+        }
+        _ => {
+            say(page, b", included and not done");
+            say_wanted(page, b"excluded or done, by NeedOutOrEx");
+        }
+    }
 }
 
 pub fn say_unapplied(page: &mut Page, r: Record, m: Marking) {
@@ -171,21 +195,5 @@ pub fn say_unapplied(page: &mut Page, r: Record, m: Marking) {
         say_wanted(page, b"one that some marking suits");
         return;
     }
-    let out = lacking(r.needin, m.included);
-    if out != 0 {
-        say_steps(page, out);
-        say(page, b", not included");
-        say_wanted(page, b"included, by NeedIn");
-        return;
-    }
-    let undone = lacking(r.needex, m.done);
-    if undone != 0 {
-        say_steps(page, undone);
-        say(page, b", not done");
-        say_wanted(page, b"done, by NeedEx");
-        return;
-    }
-    say_steps(page, open(r, m));
-    say(page, b", included and not done");
-    say_wanted(page, b"excluded or done, by NeedOutOrEx");
+    say_lack(page, first_lack(r, m));
 }

@@ -157,10 +157,13 @@ fn say_role_sets(page: &mut Page, s: &[u8]) {
 }
 
 pub fn say_sets(page: &mut Page, s: &[u8]) {
-    let n = steps(s);
-    let found = first_stray(n as u64, first_marking(s));
+    let n = steps(s) as u64;
+    if 64 < n {
+        return;
+    }
+    let found = first_stray(n, first_marking(s));
     if found.steps != 0 {
-        say_beyond(page, found, b" of the first marking", n as u64);
+        say_beyond(page, found, b" of the first marking", n);
         return;
     }
     say_role_sets(page, s);
