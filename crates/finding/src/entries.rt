@@ -4,7 +4,7 @@ use crate::words::say_found as say_it;
 use crate::words::say_known;
 use crate::words::say_steps;
 use crate::words::say_wanted;
-use lines::say::Page;
+use lines::page::Page;
 use lines::say::say;
 use lines::say::say_number;
 use lines::say::say_set;

@@ -7,7 +7,7 @@ use crate::words::say_found;
 use crate::words::say_length;
 use crate::words::say_size;
 use crate::words::say_wanted;
-use lines::say::Page;
+use lines::page::Page;
 use lines::say::say;
 
 // Bodies are counted from 1, as in the contents.

@@ -7,7 +7,7 @@ use crate::parts::beyond;
 use crate::parts::first_of;
 use crate::words::say_known;
 use crate::words::say_steps;
-use lines::say::Page;
+use lines::page::Page;
 use lines::say::say;
 use moves::Marking;
 

@@ -13,7 +13,7 @@ use crate::words::say_length;
 use crate::words::say_size;
 use crate::words::say_steps;
 use crate::words::say_wanted;
-use lines::say::Page;
+use lines::page::Page;
 use lines::say::say;
 use lines::say::say_number;
 use moves::Marking;

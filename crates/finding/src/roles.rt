@@ -12,7 +12,7 @@ use crate::words::say_found;
 use crate::words::say_known;
 use crate::words::say_size;
 use crate::words::say_wanted;
-use lines::say::Page;
+use lines::page::Page;
 use lines::say::say;
 use lines::say::say_number;
 use lines::say::say_set;

@@ -5,7 +5,7 @@ use crate::pointed::say_wrong;
 use crate::roles::say_counts;
 use crate::roles::say_sets;
 use crate::roles::say_sizes;
-use lines::say::Page;
+use lines::page::Page;
 
 pub fn say_found(page: &mut Page, sheet: &[u8], number: u8) {
     match number {

@@ -1,5 +1,5 @@
 // The pieces that the two lines are made of.
-use lines::say::Page;
+use lines::page::Page;
 use lines::say::say;
 use lines::say::say_number;
 use lines::say::say_set;
