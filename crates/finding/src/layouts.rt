@@ -1,7 +1,12 @@
 // Number 1: the first thing that keeps bytes from being laid out as a sheet, in the order in which a reader asks.
-ghost use Prim.Native.Nat.{_+_, _*_, _≤_};
-use crate::parts::byte;
-use crate::parts::two;
+ghost use mathlib.Core.Path.{_≡_};
+ghost use Prim.Native.Nat.{_+_, _<_, _≤_};
+ghost use mathlib.Core.Bool.{_&&_};
+ghost use lib.ListN.{length};
+ghost use lib.Dec.{eqb};
+ghost use Rattle.layout.specs.Layout.{kindAt, offsetAt, follows};
+ghost use Rattle.reading.specs.Reading.{layoutFits};
+ghost use Rattle.finding.specs.Laid.{isNothing, sizesFit};
 use crate::words::say_expected;
 use crate::words::say_found;
 use crate::words::say_length;
@@ -27,10 +32,28 @@ pub enum Fault {
     Nothing,
 }
 
-fn sizes_fault(s: &[u8]) -> Fault {
-    let counts = two(s, 4);
-    let marking = two(s, 9);
-    let arrows = two(s, 24);
+fn is_nothing(f: Fault) -> bool
+    ensures { λ r. ⌜ r ≡ isNothing f ⌝ }
+{
+    match f {
+        Fault::Nothing => true,
+        Fault::Length(_) => false,
+        Fault::First(_) => false,
+        Fault::Named(_, _) => false,
+        Fault::Begins(_, _, _) => false,
+        Fault::Ends(_, _) => false,
+        Fault::Size(_, _, _) => false,
+    }
+}
+
+// The sizes that do not hang on the counts.
+fn sizes_fault(s: &[u8]) -> Fault
+    requires { ⌜ 26 ≤ length (now s) ⌝ }
+    ensures { λ r. ⌜ isNothing r ≡ sizesFit (now (s .entry)) ⌝ }
+{
+    let counts = layout::size(s, 0);
+    let marking = layout::size(s, 1);
+    let arrows = layout::size(s, 4);
     if counts != 3 {
         return Fault::Size(1, counts, 3);
     }
@@ -43,20 +66,35 @@ fn sizes_fault(s: &[u8]) -> Fault {
     Fault::Nothing
 }
 
-// The contents, line by line, and then the sizes that do not hang on the counts.
-fn contents_fault(s: &[u8]) -> Fault {
+// Line i of the contents, counted from 0, for a body that should begin at `at`.
+fn line_fault(s: &[u8], i: usize, at: usize) -> Fault
+    requires { ⌜ (i < 5) × (26 ≤ length (now s)) ⌝ }
+    ensures { λ r. ⌜ isNothing r ≡ (eqb (kindAt (now (s .entry)) i) (i + 1) && eqb (offsetAt (now (s .entry)) i) at) ⌝ }
+{
+    let named = s[1 + 5 * i] as usize;
+    let begins = layout::offset(s, i);
+    if named != i + 1 {
+        return Fault::Named(i + 1, named);
+    }
+    if begins != at {
+        return Fault::Begins(i + 1, begins, at);
+    }
+    Fault::Nothing
+}
+
+// The contents, line by line, and then the sizes.
+fn contents_fault(s: &[u8]) -> Fault
+    requires { ⌜ 26 ≤ length (now s) ⌝ }
+    ensures { λ r. ⌜ isNothing r ≡ (follows 5 0 26 (now (s .entry)) && sizesFit (now (s .entry))) ⌝ }
+{
     let mut at = 26;
     let mut i = 0;
     while i < 5 {
-        let named = byte(s, 1 + 5 * i);
-        if named != i + 1 {
-            return Fault::Named(i + 1, named);
+        let f = line_fault(s, i, at);
+        if !is_nothing(f) {
+            return f;
         }
-        let begins = two(s, 2 + 5 * i);
-        if begins != at {
-            return Fault::Begins(i + 1, begins, at);
-        }
-        at += two(s, 4 + 5 * i);
+        at += layout::size(s, i);
         i += 1;
     }
     if at != s.len() {
@@ -65,14 +103,16 @@ fn contents_fault(s: &[u8]) -> Fault {
     sizes_fault(s)
 }
 
-pub fn first_fault(s: &[u8]) -> Fault {
+pub fn first_fault(s: &[u8]) -> Fault
+    ensures { λ r. ⌜ isNothing r ≡ layoutFits (now (s .entry)) ⌝ }
+{
     if s.len() < 29 {
         return Fault::Length(s.len());
     }
     if 37077 < s.len() {
         return Fault::Length(s.len());
     }
-    let first = byte(s, 0);
+    let first = s[0] as usize;
     if first != 5 {
         return Fault::First(first);
     }

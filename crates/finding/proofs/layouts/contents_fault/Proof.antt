@@ -1,62 +1,48 @@
--- `layouts::contents_fault` ends: the lines left fall. No place passes what the lines before can add up to. Assumes nothing.
-use Prim.Native.Nat.{_≤_, _-_, _+_, _*_}
+-- `layouts::contents_fault`: the lines that are left decide; a line with a fault ends it, and behind the last the sizes decide. Assumes nothing.
+use Prim.Native.Nat.{ℕ, _+_, _-_, _*_, _≤_}
+use mathlib.Core.Path.{_≡_, refl, sym, ap, ap₂, _∙_}
+use mathlib.Core.Bool.{Bool, _&&_}
+use native.Mathlib.Omega.{arith}
+use lib.ListN.{length}
 use borrow.Author.Needs.{needs}
+use borrow.Author.Tests.{eq-eqb, ne-eqb, not-true, not-false}
+use Rattle.layout.specs.Layout.{sizeAt, follows}
+use Rattle.layout.specs.Loops.{follows-more, follows-done}
+use Rattle.finding.specs.Laid.{sizesFit}
 use Rattle.finding.proofs.layouts.contents_fault.Statement.{statement}
 use Rattle.finding.proofs.layouts.contents_fault.Tie as tie
 
 abbrev Inv-loop : tie.InvT-loop
-Inv-loop s at₀ i₀ at i = (i ≤ 5) × (at ≤ 26 + 65536 * i)
+Inv-loop s at₀ i₀ at i = (i ≤ 5) × (at ≤ 26 + 65536 * i) × (follows 5 0 26 s ≡ follows (5 - i) i at s)
 
 abbrev μ-loop : tie.MeasureT-loop
 μ-loop s at₀ i₀ at i = 5 - i
 
 loop-holds : tie.Need-loop-holds Inv-loop μ-loop
-loop-holds c = search needs
+loop-holds c = (search needs, search needs, refl)
 
-mul-byte : tie.Need-mul-byte Inv-loop μ-loop
-mul-byte c = search needs
+line-fault-requires : tie.Need-line-fault-requires Inv-loop μ-loop
+line-fault-requires c κs = search needs
 
-add-byte : tie.Need-add-byte Inv-loop μ-loop
-add-byte c = search needs
-
-byte-requires : tie.Need-byte-requires Inv-loop μ-loop
-byte-requires c κs = search needs
-
-add-if1 : tie.Need-add-if1 Inv-loop μ-loop
-add-if1 c = search needs
-
-add-t9 : tie.Need-add-t9 Inv-loop μ-loop
-add-t9 c = search needs
+is-nothing-requires : tie.Need-is-nothing-requires Inv-loop μ-loop
+is-nothing-requires c κs = search needs
 
 returns : tie.Need-returns Inv-loop μ-loop
-returns c = search needs
+returns c =
+    let line = c .before .before in
+    let l = line .before .before .loop in
+    let s = line .before .before .before .before .args .s .now in
+    let wrong = sym (c .before .is-nothing .ensures) ∙ not-true _ (c .if1 .taken) in
+    let left = l .inv .2 ∙ follows-more 5 (l .i) (l .at) s (line .before .loop-test .taken) in
+    let none =
+    ap (λ (b : Bool). b && follows (5 - (l .i + 1)) (l .i + 1) (l .at + sizeAt s (l .i)) s) (sym (line .line-fault .ensures) ∙ wrong) in
+    wrong ∙ sym (ap (λ (b : Bool). b && sizesFit s) (left ∙ none))
 
-mul-two : tie.Need-mul-two Inv-loop μ-loop
-mul-two c = search needs
-
-add-two : tie.Need-add-two Inv-loop μ-loop
-add-two c = search needs
-
-two-requires : tie.Need-two-requires Inv-loop μ-loop
-two-requires c κs = search needs
-
-add-t10 : tie.Need-add-t10 Inv-loop μ-loop
-add-t10 c = search needs
-
-returns-2 : tie.Need-returns-2 Inv-loop μ-loop
-returns-2 c = search needs
-
-mul-two-2 : tie.Need-mul-two-2 Inv-loop μ-loop
-mul-two-2 c = search needs
-
-add-two-2 : tie.Need-add-two-2 Inv-loop μ-loop
-add-two-2 c = search needs
-
-two-requires-2 : tie.Need-two-requires-2 Inv-loop μ-loop
-two-requires-2 c κs = search needs
+size-requires : tie.Need-size-requires Inv-loop μ-loop
+size-requires c κs = search needs
 
 add-at : tie.Need-add-at Inv-loop μ-loop
-add-at c = search needs
+add-at c = omega (arith, c .size .ensures .1)
 
 add-i : tie.Need-add-i Inv-loop μ-loop
 add-i c = search needs
@@ -65,16 +51,35 @@ loop-less : tie.Need-loop-less Inv-loop μ-loop
 loop-less c = search needs
 
 loop-again : tie.Need-loop-again Inv-loop μ-loop
-loop-again c = search needs
+loop-again c =
+    let line = c .before .before .before in
+    let l = line .before .before .loop in
+    let s = line .before .before .before .before .args .s .now in
+    let right = sym (c .before .before .is-nothing .ensures) ∙ not-false _ (c .before .if1 .left) in
+    let left = l .inv .2 ∙ follows-more 5 (l .i) (l .at) s (line .before .loop-test .taken) in
+    let more =
+    ap₂ (λ (b : Bool) (n : ℕ). b && follows (5 - (l .i + 1)) (l .i + 1) (l .at + n) s) (sym (line .line-fault .ensures) ∙ right)
+    (sym (c .size .ensures .0)) in
+    (search needs, omega (arith, c .size .ensures .1), left ∙ more)
 
-returns-3 : tie.Need-returns-3 Inv-loop μ-loop
-returns-3 c = search needs
+returns-2 : tie.Need-returns-2 Inv-loop μ-loop
+returns-2 c =
+    let l = c .before .before .loop in
+    let s = c .before .before .before .before .args .s .now in
+    sym (ap (λ (b : Bool). b && sizesFit s)
+    (l .inv .2 ∙ follows-done 5 (l .i) (l .at) s (c .before .loop-test .left) ∙ ne-eqb (l .at) (length s) (c .if2 .taken)))
 
 sizes-fault-requires : tie.Need-sizes-fault-requires Inv-loop μ-loop
 sizes-fault-requires c κs = search needs
 
-returns-4 : tie.Need-returns-4 Inv-loop μ-loop
-returns-4 c = search needs
+returns-3 : tie.Need-returns-3 Inv-loop μ-loop
+returns-3 c =
+    let after = c .before .before in
+    let l = after .before .loop in
+    let s = after .before .before .before .args .s .now in
+    c .sizes-fault .ensures
+    ∙ sym (ap (λ (b : Bool). b && sizesFit s)
+    (l .inv .2 ∙ follows-done 5 (l .i) (l .at) s (after .loop-test .left) ∙ eq-eqb (l .at) (length s) (c .before .if2 .left)))
 
 pub contents-fault-spec : {M : Type 1} → statement M
 contents-fault-spec =
@@ -83,24 +88,14 @@ contents-fault-spec =
     Inv-loop
     μ-loop
     loop-holds
-    mul-byte
-    add-byte
-    byte-requires
-    add-if1
-    add-t9
+    line-fault-requires
+    is-nothing-requires
     returns
-    mul-two
-    add-two
-    two-requires
-    add-t10
-    returns-2
-    mul-two-2
-    add-two-2
-    two-requires-2
+    size-requires
     add-at
     add-i
     loop-less
     loop-again
-    returns-3
+    returns-2
     sizes-fault-requires
-    returns-4)
+    returns-3)
