@@ -1,5 +1,5 @@
--- The paper's Definition 7, item by item as it is printed, with `ln` read as In. The events are the steps, E = {e₁, .., eₙ}, in the
--- order of their numbers. Nothing of the rule that the code follows (Tracker.antt) is used here; Same.antt proves that the two are the same.
+-- The paper's Definition 7, item by item as it is printed, with `ln` read as In. The events are the steps, E = {e₁, .., eₙ}, in the order
+-- of their numbers. Nothing of the rule that the code follows (Tracker.antt) is used here; Same.antt proves that the two are the same.
 use Prim.Native.Nat.{ℕ, _≤_}
 use mathlib.Core.Path.{_≡_}
 use mathlib.Core.Bool.{Bool, false, _&&_, _||_, cond}

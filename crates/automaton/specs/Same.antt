@@ -1,4 +1,5 @@
--- The rule that the tracker follows and the paper's Definition 7 are the same: from each state, each answers what the other says. Assumes nothing.
+-- The rule that the tracker follows and the paper's Definition 7 are the same: from each state, each answers what the other says. Assumes
+-- nothing.
 use Prim.Native.Nat.{ℕ, _+_, _^_, _<_, _≤_}
 use mathlib.Core.Path.{_≡_, refl, sym, ap, ap₂, _∙_}
 use mathlib.Core.Logic.{_↔_}
@@ -23,7 +24,8 @@ use Rattle.moves.specs.Inside.{Inside, inside-fits}
 use Rattle.rules.specs.Entries.{moved-after}
 use Rattle.tracker.specs.declared.Track.{Track}
 use Rattle.tracker.specs.declared.Tracked.{Tracked}
-use Rattle.tracker.specs.Tracker.{isRank, begin, rest, pending, above, pool, meets, served, trackAfter, startLines, theStart, theIdle, theStep}
+use Rattle.tracker.specs.Tracker.{isRank, begin, rest, pending, above, pool, meets, served, trackAfter}
+use Rattle.tracker.specs.Tracker.{startLines, theStart, theIdle, theStep}
 use Rattle.automaton.specs.Paper.{State, Initial, Tau, Transition, those, min, _∈?_, rankOfMin, j′, i′}
 use Rattle.tracker.specs.Laws.{above-members, sound-inside, start-clear, idle-clear, idle-at, Stepped, step-at, at-step, rank-is}
 use Rattle.automaton.specs.States.{start-is}

@@ -1,5 +1,5 @@
-// The border to C, which include/ulzhartep.h declares. A graph is lent as one block; markings, entries and states go by value; bytes are lent
-// with their length; an answer is a struct of words. Lent memory is written only where the number is 0.
+// The border to C, which include/ulzhartep.h declares. A graph is lent as one block; markings, entries and states go by value; bytes are
+// lent with their length; an answer is a struct of words. Lent memory is written only where the number is 0.
 ghost use mathlib.Core.Path.{_≡_};
 ghost use lib.ListN.{length};
 ghost use Rattle.moves.specs.First.{numberOfVerdict};
@@ -186,7 +186,8 @@ pub extern "C" fn ulz_record_write<'a, 'b>(
 ) -> Written
     ensures { λ r. ⌜ r .number ≡ numberOfVerdict (spellVerdict n (now (words .entry)) (now (room .entry))) ⌝ }
     ensures { λ r. ⌜ r .length ≡ lengthOfSpelling (spellVerdict n (now (words .entry)) (now (room .entry))) ⌝ }
-    ensures { λ r. ⌜ now (room .exit) ≡ roomOf (spellVerdict n (now (words .entry)) (now (room .entry))) (recordOf (now (words .entry))) (now (room .entry)) ⌝ }
+    ensures { λ r. ⌜ now (room .exit) ≡ roomOf (spellVerdict n (now (words .entry)) (now (room .entry)))
+        (recordOf (now (words .entry))) (now (room .entry)) ⌝ }
 {
     let x = folded::record_of(words);
     let v = spelling::write(n, x, room);
@@ -201,10 +202,14 @@ pub extern "C" fn ulz_restore<'a, 'b, 'c>(
     journal: &'c [u8],
     m: Marking,
 ) -> Ran
-    ensures { λ r. ⌜ r .number ≡ numberOfRun (theRestoring (graphOf (now (g .entry))) (recordIn (now (bytes .entry))) (now (journal .entry)) m) ⌝ }
-    ensures { λ r. ⌜ r .waiting ≡ stepOfRun (theRestoring (graphOf (now (g .entry))) (recordIn (now (bytes .entry))) (now (journal .entry)) m) ⌝ }
-    ensures { λ r. ⌜ r .entries ≡ indexOfRun (theRestoring (graphOf (now (g .entry))) (recordIn (now (bytes .entry))) (now (journal .entry)) m) ⌝ }
-    ensures { λ r. ⌜ r .marking ≡ markingOfRun (theRestoring (graphOf (now (g .entry))) (recordIn (now (bytes .entry))) (now (journal .entry)) m) ⌝ }
+    ensures { λ r. ⌜ r .number ≡ numberOfRun
+        (theRestoring (graphOf (now (g .entry))) (recordIn (now (bytes .entry))) (now (journal .entry)) m) ⌝ }
+    ensures { λ r. ⌜ r .waiting ≡ stepOfRun
+        (theRestoring (graphOf (now (g .entry))) (recordIn (now (bytes .entry))) (now (journal .entry)) m) ⌝ }
+    ensures { λ r. ⌜ r .entries ≡ indexOfRun
+        (theRestoring (graphOf (now (g .entry))) (recordIn (now (bytes .entry))) (now (journal .entry)) m) ⌝ }
+    ensures { λ r. ⌜ r .marking ≡ markingOfRun
+        (theRestoring (graphOf (now (g .entry))) (recordIn (now (bytes .entry))) (now (journal .entry)) m) ⌝ }
 {
     let x = folded::record_in(bytes);
     let o = folding::restore(g, x, journal, m);
@@ -218,7 +223,8 @@ pub extern "C" fn ulz_restore<'a, 'b, 'c>(
 pub extern "C" fn ulz_read<'a, 'b, 'c>(sheet: &'a [u8], g: &'b mut Job, m: &'c mut [u64; 3]) -> u64
     ensures { λ r. ⌜ r ≡ numberOfVerdict (readVerdict (now (sheet .entry))) ⌝ }
     ensures { λ r. ⌜ now (g .exit) ≡ ifClear (readVerdict (now (sheet .entry))) (blockRead (now (sheet .entry))) (now (g .entry)) ⌝ }
-    ensures { λ r. ⌜ now (m .exit) ≡ ifClear (readVerdict (now (sheet .entry))) (markingWords (firstOf (now (sheet .entry)))) (now (m .entry)) ⌝ }
+    ensures { λ r. ⌜ now (m .exit) ≡ ifClear (readVerdict (now (sheet .entry)))
+        (markingWords (firstOf (now (sheet .entry)))) (now (m .entry)) ⌝ }
 {
     let a = sheet::read(sheet, g);
     let v = a.verdict;

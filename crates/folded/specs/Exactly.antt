@@ -1,6 +1,7 @@
--- The fold of a journal is the one well-formed record that acts as its run does, and it is never exactly if no marking lets every entry pass. That is so
--- for four causes: an entry names what there is not, its person does not hold the role, its step does not have it, or an earlier entry shut its step out
--- and none since has let it in. For at the marking with everything done and included nothing else can stand in the way. Assumes nothing.
+-- The fold of a journal is the one well-formed record that acts as its run does, and it is never exactly if no marking lets every entry
+-- pass. That is so for four causes: an entry names what there is not, its person does not hold the role, its step does not have it, or an
+-- earlier entry shut its step out and none since has let it in. For at the marking with everything done and included nothing else can
+-- stand in the way. Assumes nothing.
 use Prim.Native.Nat.{ℕ, _<_}
 use mathlib.Core.Path.{_≡_, refl, sym, ap, ap₂, _∙_}
 use mathlib.Core.Logic.{_↔_}

@@ -202,7 +202,8 @@ pub passes-append : (g : Graph) (a b : List Entry) (m : Marking) → endOfAll g 
 unfolding endOfAll bind
 passes-append g [] b m = refl
 passes-append g (e ∷ a) b m =
-    then-same (movedTo (entryMove g m e)) (λ x. endOfAll g x (a ++ b)) (λ x. bind (endOfAll g x a) (λ y. endOfAll g y b)) (passes-append g a b)
+    then-same (movedTo (entryMove g m e)) (λ x. endOfAll g x (a ++ b)) (λ x. bind (endOfAll g x a) (λ y. endOfAll g y b))
+    (passes-append g a b)
     ∙ sym (then-again (movedTo (entryMove g m e)) (λ x. endOfAll g x a) (λ y. endOfAll g y b))
 
 -- applying the fold of one list and then going through another is going through both

@@ -22,7 +22,8 @@ pub possible-serves : (g : Graph) (e : Entry) → graphVerdict g ≡ Verdict.Cle
 unfolding setsFit
 possible-serves g e clear =
     same-truth (possible g e) (held && has-it)
-    (λ t. and-intro (and-right (entryKnown g e) held (and-left (entryKnown g e && held) has-it t)) (and-right (entryKnown g e && held) has-it t))
+    (λ t. and-intro (and-right (entryKnown g e) held (and-left (entryKnown g e && held) has-it t))
+    (and-right (entryKnown g e && held) has-it t))
     (λ t. and-intro (and-intro (is (and-left held has-it t) (and-right held has-it t)) (and-left held has-it t)) (and-right held has-it t))
   where
     held : Bool

@@ -1,6 +1,7 @@
--- Where entries come after a table: a number below 11, and 17, is the table's and is given exactly if it is the lowest that holds there; 11 to 15 are
--- given only where nothing of the table holds, for the earliest entry that is not allowed, which `stopped-first` and the relation `LapAnswer` say. So the
--- order of laps is 2, 4, 6, 7, 8, 17, then 11 to 15, and that of restoring 2, 4, 6, 7, 8, 10, then 16, then 11 to 15: these two do not go up. Assumes nothing.
+-- Where entries come after a table: a number below 11, and 17, is the table's and is given exactly if it is the lowest that holds there;
+-- 11 to 15 are given only where nothing of the table holds, for the earliest entry that is not allowed, which `stopped-first` and the
+-- relation `LapAnswer` say. So the order of laps is 2, 4, 6, 7, 8, 17, then 11 to 15, and that of restoring 2, 4, 6, 7, 8, 10, then 16,
+-- then 11 to 15: these two do not go up. Assumes nothing.
 use Prim.Native.Nat.{ℕ, _<_}
 use mathlib.Core.Path.{_≡_, refl, sym, ap}
 use mathlib.Core.List.{List}

@@ -1,5 +1,5 @@
--- A call that tests its table and nothing else gives a number exactly if it is the lowest that holds: the tables go up. A line for each such call; laps,
--- runs and restores, whose entries come after the table, stand in `Entries`. Assumes nothing.
+-- A call that tests its table and nothing else gives a number exactly if it is the lowest that holds: the tables go up. A line for each
+-- such call; laps, runs and restores, whose entries come after the table, stand in `Entries`. Assumes nothing.
 use Prim.Native.Nat.{ℕ, _<_}
 use mathlib.Core.Path.{_≡_, refl, sym, subst}
 use mathlib.Core.Logic.{_↔_}
@@ -89,7 +89,8 @@ module _ (g : Graph) where
   step-given t e = exactly (stepLines g t e) (numberOfTracked (theStep g t e)) refl (step-number g t e)
 
 -- a walk: 7
-walked-number : (k : ℕ) (v : Verdict) (s : Stride) → numberOfWalked (s .said) ≡ 0 → numberOfWalked (strideOf k v s .said) ≡ numberOfVerdict v
+walked-number : (k : ℕ) (v : Verdict) (s : Stride) → numberOfWalked (s .said) ≡ 0
+    → numberOfWalked (strideOf k v s .said) ≡ numberOfVerdict v
 unfolding strideOf numberOfWalked numberOfVerdict
 walked-number k Verdict.Clear s e = e
 walked-number k (Verdict.Refused r) s e = refl

@@ -1,5 +1,5 @@
--- Endless runs by what is against each entry alone. On a graph with nothing against it, from a marking that fits, that decides the move, since an
--- allowed entry keeps the marking within the graph. Nothing here has to be believed. Assumes nothing.
+-- Endless runs by what is against each entry alone. On a graph with nothing against it, from a marking that fits, that decides the move,
+-- since an allowed entry keeps the marking within the graph. Nothing here has to be believed. Assumes nothing.
 use Prim.Native.Nat.{ℕ, zero, suc, _<_}
 use mathlib.Core.Path.{_≡_, refl, ap, _∙_}
 use mathlib.Core.List.{_++_}

@@ -91,8 +91,8 @@ pub record Stops (g : Graph) (m : Marking) (stem lap : List Entry) (k : ℕ) (p 
   pub index : k ≡ indexAt stem lap position
   pub pass : numberOfPass p ≡ passAt stem lap position
 
--- What is right to answer. Before any entry is looked at, the table. Then the earliest entry that is not allowed, by index and pass; or, where the run goes
--- on for ever, accepted, or starved with the lowest step that starves
+-- What is right to answer. Before any entry is looked at, the table. Then the earliest entry that is not allowed, by index and pass; or,
+-- where the run goes on for ever, accepted, or starved with the lowest step that starves
 unfoldable pub LapAnswer : Graph → Marking → List ℕ → List ℕ → Lapped → Type 0
 LapAnswer g m stem lap (Lapped.Refused r) = first (lapLines g m stem lap) ≡ Verdict.Refused r
 LapAnswer g m stem lap (Lapped.Stopped k p r) = (first (lapLines g m stem lap) ≡ Verdict.Clear)

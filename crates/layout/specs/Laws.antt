@@ -1,4 +1,5 @@
--- The laws of the layout: the contents of laid-out bodies lead to these bodies, and a sheet whose contents fit is laid out from the bodies that
+-- The laws of the layout: the contents of laid-out bodies lead to these bodies, and a sheet whose contents fit is laid out from the bodies
+-- that
 -- they lead to. Assumes nothing.
 use Prim.Native.Nat.{ℕ, zero, suc, _+_, _-_, _*_, _%_, _≤_, _<_}
 use mathlib.Core.Path.{_≡_, refl, sym, ap, ap₂, _∙_, subst}

@@ -49,7 +49,8 @@ sizeAt s i = number 2 (drop (4 + 5 * i) s)
 abbrev pub bodyAt : List ℕ → ℕ → List ℕ
 bodyAt s i = take (sizeAt s i) (drop (offsetAt s i) s)
 
--- the k lines from line i on: kinds in order, bodies from `at` without gaps to the end of the sheet. Offset and length add up as whole numbers
+-- the k lines from line i on: kinds in order, bodies from `at` without gaps to the end of the sheet. Offset and length add up as whole
+-- numbers
 unfoldable pub follows : ℕ → ℕ → ℕ → List ℕ → Bool
 follows zero i at s = eqb at (length s)
 follows (suc k) i at s = eqb (kindAt s i) (i + 1) && eqb (offsetAt s i) at && follows k (i + 1) (at + sizeAt s i) s

@@ -81,7 +81,8 @@ fn write_line(kind: usize, offset: usize, size: usize, room: &mut [u8], at: usiz
 }
 
 fn write_lines(sizes: &[usize], room: &mut [u8], at: usize) -> usize
-    requires { ⌜ (length (now sizes) < 256) × (at + 5 * length (now sizes) ≤ length (now room)) × ((i : ℕ) → getD (now sizes) i 0 < 65536) ⌝ }
+    requires { ⌜ (length (now sizes) < 256) × (at + 5 * length (now sizes) ≤ length (now room))
+        × ((i : ℕ) → getD (now sizes) i 0 < 65536) ⌝ }
     ensures { λ r. ⌜ Spliced (lines (now (sizes .entry))) at (now (room .entry)) (now (room .exit)) r ⌝ }
 {
     let mut to = at;
@@ -97,7 +98,8 @@ fn write_lines(sizes: &[usize], room: &mut [u8], at: usize) -> usize
 
 // Writes byte 0 and the contents of bodies of these sizes, and gives the place where the bodies start.
 pub fn write(sizes: &[usize], room: &mut [u8]) -> usize
-    requires { ⌜ (length (now sizes) < 256) × (start (length (now sizes)) ≤ length (now room)) × ((i : ℕ) → getD (now sizes) i 0 < 65536) ⌝ }
+    requires { ⌜ (length (now sizes) < 256) × (start (length (now sizes)) ≤ length (now room))
+        × ((i : ℕ) → getD (now sizes) i 0 < 65536) ⌝ }
     ensures { λ r. ⌜ Spliced (front (now (sizes .entry))) 0 (now (room .entry)) (now (room .exit)) r ⌝ }
 {
     let a = numbers::put(sizes.len() as u64, 1, room, 0);

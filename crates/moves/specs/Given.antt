@@ -149,7 +149,8 @@ first-lowest k (l ∷ a) h j e =
     here = ltb-true k (numberOf (l .0)) (and-left (ltb k (numberOf (l .0))) (ascends (numberOf (l .0)) a) h)
 
     go : (b : Bool) → l .1 ≡ b → (holds j a ≡ true → (0 < numberOfVerdict (first a)) × (numberOfVerdict (first a) ≤ j))
-        → (0 < numberOfVerdict (cond (l .1) (Verdict.Refused (l .0)) (first a))) × (numberOfVerdict (cond (l .1) (Verdict.Refused (l .0)) (first a)) ≤ j)
+        → (0 < numberOfVerdict (cond (l .1) (Verdict.Refused (l .0)) (first a)))
+        × (numberOfVerdict (cond (l .1) (Verdict.Refused (l .0)) (first a)) ≤ j)
     go true p rest =
         subst (λ (b : Bool). (0 < numberOfVerdict (cond b (Verdict.Refused (l .0)) (first a)))
         × (numberOfVerdict (cond b (Verdict.Refused (l .0)) (first a)) ≤ j)) (sym p) (
@@ -192,7 +193,8 @@ given-exactly lines up k h = (there, back)
     back : Lowest k lines → numberOfVerdict (first lines) ≡ k
     back l =
         let low = first-lowest 0 lines up k (l .here) in
-        let high : k ≤ numberOfVerdict (first lines) = l .least (numberOfVerdict (first lines)) (given-holds lines (first lines) refl (low .0)) in
+        let high : k ≤ numberOfVerdict (first lines) =
+        l .least (numberOfVerdict (first lines)) (given-holds lines (first lines) refl (low .0)) in
         let most : numberOfVerdict (first lines) ≤ k = low .1 in
         omega arith
 

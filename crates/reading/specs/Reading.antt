@@ -40,7 +40,8 @@ graphIn s = graphOf (blockRead s)
 
 -- ---- the table for reading
 
--- 1: a length outside 29 to 37,077, byte 0 or contents not as they should be, body 1 not 3, body 2 not 24 or body 5 no multiple of 3 bytes long
+-- 1: a length outside 29 to 37,077, byte 0 or contents not as they should be, body 1 not 3, body 2 not 24 or body 5 no multiple of 3 bytes
+-- long
 unfoldable pub layoutFits : List ℕ → Bool
 layoutFits s =
     leb 29 (length s)

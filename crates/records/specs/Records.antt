@@ -9,7 +9,8 @@ use Rattle.records.specs.declared.Record.{Record}
 
 -- ---- what a record does
 
--- a record applies: never is off, what must be included is, what must be done is, and what must be excluded or done is done where it is included
+-- a record applies: never is off, what must be included is, what must be done is, and what must be excluded or done is done where it is
+-- included
 unfoldable pub applies : Record → Marking → Bool
 applies r m =
     not (r .never)

@@ -1,5 +1,6 @@
--- The test of number 5 in words: the arrows fit exactly if each has a kind of at most 3 and steps that there are, and any earlier one comes before any later
--- one as triples. The test looks at neighbours only; the order of triples carries it on to every pair. Assumes nothing.
+-- The test of number 5 in words: the arrows fit exactly if each has a kind of at most 3 and steps that there are, and any earlier one
+-- comes before any later one as triples. The test looks at neighbours only; the order of triples carries it on to every pair. Assumes
+-- nothing.
 use Prim.Native.Nat.{ℕ, zero, suc, _≤_, _<_}
 use mathlib.Core.Path.{_≡_, refl, _∙_}
 use mathlib.Core.Logic.{_↔_, _⊎_, inl, inr}

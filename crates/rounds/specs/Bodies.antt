@@ -1,5 +1,5 @@
--- The bodies of counts, marking and role sets: reading what was written gives the values, and writing what was read gives the bytes. Each is made of
--- numbers as bytes, for which both hold at any width. Assumes nothing.
+-- The bodies of counts, marking and role sets: reading what was written gives the values, and writing what was read gives the bytes. Each
+-- is made of numbers as bytes, for which both hold at any width. Assumes nothing.
 use Prim.Native.Nat.{ℕ, zero, suc, _+_, _-_, _*_, _/_, _%_, _^_, _≤_, _<_}
 use mathlib.Core.Path.{_≡_, refl, sym, ap, ap₂, _∙_, subst}
 use mathlib.Core.List.{List, [], _∷_, _++_, append-nil, append-assoc}

@@ -1,5 +1,5 @@
--- The test of the contents in words: byte 0 is the number of bodies; the kinds count up from 1; and the bodies start behind the contents, each where the one
--- before it ends, the last ending with the sheet. Assumes nothing.
+-- The test of the contents in words: byte 0 is the number of bodies; the kinds count up from 1; and the bodies start behind the contents,
+-- each where the one before it ends, the last ending with the sheet. Assumes nothing.
 use Prim.Native.Nat.{ℕ, zero, suc, _+_, _≤_, _<_}
 use mathlib.Core.Path.{_≡_, sym, ap, _∙_, subst}
 use mathlib.Core.Logic.{_↔_}

@@ -1,5 +1,5 @@
--- A job with its first marking has exactly one sheet: a list of bytes says them if and only if it is what is written of them. Every part of a sheet is made
--- of numbers as bytes, and of arrows whose kinds and steps are below 64. Assumes that a block has 339 words.
+-- A job with its first marking has exactly one sheet: a list of bytes says them if and only if it is what is written of them. Every part
+-- of a sheet is made of numbers as bytes, and of arrows whose kinds and steps are below 64. Assumes that a block has 339 words.
 use Prim.Native.Nat.{ℕ, zero, suc, _+_, _/_, _%_, _≤_, _<_}
 use mathlib.Core.Path.{_≡_, sym, subst}
 use mathlib.Core.Logic.{_↔_}

@@ -1,5 +1,5 @@
--- The longest sheet has 37,077 bytes. Every part but the arrows has a length by the counts; a table has at most 64 arrows from each of 64 steps, and
--- includes and excludes, which share no pair, have together no more than one table. One graph reaches it. Assumes nothing.
+-- The longest sheet has 37,077 bytes. Every part but the arrows has a length by the counts; a table has at most 64 arrows from each of 64
+-- steps, and includes and excludes, which share no pair, have together no more than one table. One graph reaches it. Assumes nothing.
 use Prim.Native.Nat.{ℕ, zero, suc, _+_, _*_, _≤_, _<_}
 use mathlib.Core.Path.{_≡_, refl, sym, ap, _∙_}
 use mathlib.Core.List.{List, _∷_, _++_}

@@ -1,5 +1,5 @@
--- Each number is given exactly when the table says. The numbers of both tables go up, so that the first line that holds has the lowest number that
--- holds: it is given exactly if its line holds and none before it. Assumes nothing.
+-- Each number is given exactly when the table says. The numbers of both tables go up, so that the first line that holds has the lowest
+-- number that holds: it is given exactly if its line holds and none before it. Assumes nothing.
 use Prim.Native.Nat.{ℕ, _<_}
 use mathlib.Core.Path.{_≡_, refl, ap}
 use mathlib.Core.Logic.{_↔_}

@@ -1,5 +1,6 @@
--- Reading what was written gives the job and its first marking. The contents of a sheet lead to the bodies that it was laid out from; each body is read
--- back; and what stands for writing (2, 4, 6) is what the reader asks for (1 to 6). Assumes that a block has 339 words, as every lent one has.
+-- Reading what was written gives the job and its first marking. The contents of a sheet lead to the bodies that it was laid out from; each
+-- body is read back; and what stands for writing (2, 4, 6) is what the reader asks for (1 to 6). Assumes that a block has 339 words, as
+-- every lent one has.
 use Prim.Native.Nat.{ℕ, _*_, _^_, _≤_, _<_}
 use mathlib.Core.Path.{_≡_, sym, ap, ap₂, _∙_}
 use mathlib.Core.List.{List, [], _∷_, _++_}

@@ -1,5 +1,5 @@
--- What a sheet says: the graph that is read has exactly the arrows that stand on the sheet, and number 6 is given exactly if an include and an exclude of one
--- pair stand there. The table holds just the arrows that were put into it. Assumes nothing.
+-- What a sheet says: the graph that is read has exactly the arrows that stand on the sheet, and number 6 is given exactly if an include
+-- and an exclude of one pair stand there. The table holds just the arrows that were put into it. Assumes nothing.
 use Prim.Native.Nat.{ℕ, zero, suc, _+_, _*_, _≤_, _<_}
 use mathlib.Core.Path.{_≡_, sym, ap, ap₂, _∙_, subst}
 use mathlib.Core.Logic.{_↔_, _⊎_, inl, inr}

@@ -18,7 +18,8 @@ use Rattle.reading.specs.Reading.{layoutFits, readVerdict, blockRead}
 use Rattle.writing.specs.Writing.{sheetBytes, contentLines}
 use Rattle.rounds.specs.Says.{Says}
 
--- 05 01 1A 00 03 00 02 1D 00 18 00 03 35 00 02 00 04 37 00 02 00 05 39 00 00 00, then 01 01 01, sixteen bytes 00, 01 and seven 00, 01 00, 01 00
+-- 05 01 1A 00 03 00 02 1D 00 18 00 03 35 00 02 00 04 37 00 02 00 05 39 00 00 00,
+-- then 01 01 01, sixteen bytes 00, 01 and seven 00, 01 00, 01 00
 unfoldable pub smallest : List ℕ
 smallest =
     (5 ∷ 1 ∷ 26 ∷ 0 ∷ 3 ∷ 0 ∷ 2 ∷ 29 ∷ 0 ∷ 24 ∷ 0 ∷ 3 ∷ 53 ∷ 0 ∷ 2 ∷ 0 ∷ 4 ∷ 55 ∷ 0 ∷ 2 ∷ 0 ∷ 5 ∷ 57 ∷ 0 ∷ 0 ∷ 0 ∷ [])

@@ -1,5 +1,5 @@
--- The tests of numbers 1, 2 and 4 in words: lengths and counts by their bounds, and each set by what it names. A number is below 2 ^ n exactly if the set that
--- it stands for names nothing at or beyond n. Assumes nothing.
+-- The tests of numbers 1, 2 and 4 in words: lengths and counts by their bounds, and each set by what it names. A number is below 2 ^ n
+-- exactly if the set that it stands for names nothing at or beyond n. Assumes nothing.
 use Prim.Native.Nat.{ℕ, _/_, _%_, _^_, _<_}
 use mathlib.Core.Path.{_≡_, ap, _∙_}
 use mathlib.Core.Logic.{_↔_}

@@ -1,5 +1,6 @@
--- Writing what was read gives the bytes, so that a job with its first marking has one sheet. A sheet whose contents fit is laid out from its bodies; each
--- body is what is written of what it says; and nothing is against what was read of a sheet that nothing is against. Assumes that a sheet is made of bytes.
+-- Writing what was read gives the bytes, so that a job with its first marking has one sheet. A sheet whose contents fit is laid out from
+-- its bodies; each body is what is written of what it says; and nothing is against what was read of a sheet that nothing is against.
+-- Assumes that a sheet is made of bytes.
 use Prim.Native.Nat.{ℕ, _*_, _%_, _≤_, _<_}
 use mathlib.Core.Path.{_≡_, sym, ap, ap₂, _∙_, subst}
 use mathlib.Core.List.{List, [], _∷_, _++_}

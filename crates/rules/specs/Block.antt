@@ -24,7 +24,8 @@ block-whole block e =
     (ap (λ (t : List ℕ). tableAt 3 256 block ++ t) (table-join 259 64 16 block)
     ∙ table-join 3 256 80 block
     ∙ take-all 336 (drop 3 block) (let n : length (drop 3 block) ≡ length block - 3 = length-drop 3 block in omega arith))
-    ∙ sym (first 0 (omega arith) ∙ ap (λ (t : List ℕ). row block 0 ∷ t) (first 1 (omega arith) ∙ ap (λ (t : List ℕ). row block 1 ∷ t) (first 2 (omega arith))))
+    ∙ sym (first 0 (omega arith) ∙ ap (λ (t : List ℕ). row block 0 ∷ t)
+    (first 1 (omega arith) ∙ ap (λ (t : List ℕ). row block 1 ∷ t) (first 2 (omega arith))))
   where
     first : (i : ℕ) → i < length block → drop i block ≡ row block i ∷ drop (suc i) block
     first i h = drop-cons block i 0 h

@@ -17,7 +17,8 @@ use Rattle.moves.specs.declared.Refusal.the-variants.{Outside, Unknown}
 use Rattle.moves.specs.First.{Line, first, numberOf}
 use Rattle.tables.specs.Tables.{countsFit}
 use Rattle.moves.specs.Move.{moveOf, isFinished, markingFits, sizeLines, rowLines, after, noMarking}
-use Rattle.rules.specs.Answers.{entryMove, moveOn, theMove, theEnding, endingOn, endingOf, entryKnown, entryLines, markingLines, rowOf}
+use Rattle.rules.specs.Answers.{entryMove, moveOn, theMove, theEnding, endingOn, endingOf}
+use Rattle.rules.specs.Answers.{entryKnown, entryLines, markingLines, rowOf}
 use Rattle.moves.specs.Given.{first-clear, first-refused, clear-head, numbersBelow, first-below}
 use Rattle.tables.specs.Laws.{Counted, counts-bound}
 

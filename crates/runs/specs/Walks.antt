@@ -56,7 +56,8 @@ walk-hands (suc n) j k f = go (drop k (entries j)) refl (λ i. walk-hands n j i 
 pub walk-hands-none : (n : ℕ) (j : List ℕ) (k : ℕ) → lengthFits j ≡ false → handed n j k ≡ []
 unfolding handed handedBefore
 walk-hands-none zero j k f = refl
-walk-hands-none (suc n) j k f = ap (λ (s : Stride). handedBefore (s .said) (handed n j (s .place))) (walk-length j k f) ∙ walk-hands-none n j k f
+walk-hands-none (suc n) j k f =
+    ap (λ (s : Stride). handedBefore (s .said) (handed n j (s .place))) (walk-length j k f) ∙ walk-hands-none n j k f
 
 -- where a run stops, the walk hands out the entry that it stopped at, after those that passed
 pub stopped-walk : (g : Graph) (m m′ : Marking) (k : ℕ) (r : Refusal) (j : List ℕ) → theRun g m j ≡ Ran.Stopped k r m′ → 11 ≤ numberOf r

@@ -89,7 +89,8 @@ twelve : LapAnswer job firstMarking [] (journal (reboot ∷ [])) (Lapped.Starved
     × LapAnswer job firstMarking [] (journal (reboot ∷ check ∷ [])) Lapped.Accepted
 twelve = (
   subst (LapAnswer job firstMarking [] (journal (reboot ∷ []))) starved (the-lap-right job firstMarking [] (journal (reboot ∷ []))),
-  subst (LapAnswer job firstMarking [] (journal (reboot ∷ check ∷ []))) accepted (the-lap-right job firstMarking [] (journal (reboot ∷ check ∷ []))),
+  subst (LapAnswer job firstMarking [] (journal (reboot ∷ check ∷ []))) accepted
+      (the-lap-right job firstMarking [] (journal (reboot ∷ check ∷ []))),
 )
 
 pub samples-hold : Hold samples

@@ -1,4 +1,5 @@
--- What reading and writing a sheet answer. What a sheet says and what may be against it stand in `reading`, the bytes of a graph in `writing`.
+-- What reading and writing a sheet answer. What a sheet says and what may be against it stand in `reading`, the bytes of a graph in
+-- `writing`.
 use Prim.Native.Nat.{ℕ}
 use mathlib.Core.List.{List, [], _∷_, _++_}
 use lib.ListN.{length, drop}

@@ -11,6 +11,7 @@ use lib.Pow.{pow-mono}
 use lib.Dec.{eqb, leb}
 use borrow.Author.Tests.{eq-eqb, le-leb, eqb-true, leb-true}
 use Rattle.sets.specs.Truth.{and-left, and-right}
+use Rattle.moves.specs.declared.Verdict.{Verdict}
 use Rattle.moves.specs.First.{first}
 use Rattle.moves.specs.Move.{within1to}
 use Rattle.numbers.specs.Numbers.{number, bytes, Bytes, Spliced}
@@ -19,7 +20,7 @@ use Rattle.records.specs.declared.Record.{Record}
 use Rattle.records.specs.declared.Recorded.{Recorded}
 use Rattle.records.specs.Records.{setsOf, wellFormed}
 use Rattle.records.specs.WellFormed.{Bounded, well-formed}
-use Rattle.spelling.specs.Bytes.{flag, setsSpelt, recordBytes, recordAt, readable, theReading}
+use Rattle.spelling.specs.Bytes.{flag, setsSpelt, recordBytes, recordAt, readable, theReading, toBytesLines, roomOf, Writing}
 use Rattle.records.specs.Answers.{recordedOf}
 use Rattle.records.specs.Answered.{counts-most}
 
@@ -37,7 +38,8 @@ spelt-then x xs at old mid new r q a b = spliced-then (bytes 8 x) (setsSpelt xs)
 pub setsSpelt-append : (xs ys : List ℕ) → setsSpelt (xs ++ ys) ≡ setsSpelt xs ++ setsSpelt ys
 unfolding setsSpelt
 setsSpelt-append [] ys = refl
-setsSpelt-append (x ∷ xs) ys = ap (λ (l : List ℕ). bytes 8 x ++ l) (setsSpelt-append xs ys) ∙ sym (append-assoc (bytes 8 x) (setsSpelt xs) (setsSpelt ys))
+setsSpelt-append (x ∷ xs) ys =
+    ap (λ (l : List ℕ). bytes 8 x ++ l) (setsSpelt-append xs ys) ∙ sym (append-assoc (bytes 8 x) (setsSpelt xs) (setsSpelt ys))
 
 -- what is left of the room behind w bytes
 pub room-behind : (w x k at : ℕ) (old new : List ℕ) (r : ℕ) → Spliced (bytes w x) at old new r → at + (w + k) ≤ length old
@@ -87,7 +89,8 @@ spelt-record r old one two new i j k h a b c =
     let both : Spliced (setsSpelt (setsOf r)) i one new k =
     subst (λ (v : List ℕ). Spliced v i one new k) (sym (setsSpelt-append front back))
     (spliced-then (setsSpelt front) (setsSpelt back) i one two new j k b c) in
-    let all : Spliced (recordBytes r) 0 old new k = spliced-then (bytes 1 (flag (r .never))) (setsSpelt (setsOf r)) 0 old one new i k a both in
+    let all : Spliced (recordBytes r) 0 old new k =
+    spliced-then (bytes 1 (flag (r .never))) (setsSpelt (setsOf r)) 0 old one new i k a both in
     let whole : 0 + length (recordBytes r) ≡ 65 = omega (arith, length-record r) in
     all .stored
     ∙ sets-eq (recordBytes r) old 0 (let z : 0 + length (recordBytes r) ≤ length old = omega arith in z)
@@ -177,6 +180,11 @@ recordBytes-recordAt (b ∷ s) h l low =
 
 -- ---- the calls
 
+-- the verdict of the table, and the room that such a verdict leaves
+pub writing : (n : ℕ) (r : Record) (old new : List ℕ) (v : Verdict) → first (toBytesLines n r old) ≡ v → new ≡ roomOf v r old
+    → Writing n r old v new
+writing n r old new v e h = record { answer = sym e; room = h ∙ ap (λ (w : Verdict). roomOf w r old) (sym e) }
+
 -- reading the bytes of a well-formed record gives the record
 pub reads-back : (n : ℕ) (r : Record) → within1to n 64 ≡ true → wellFormed n r ≡ true → theReading n (recordBytes r) ≡ Recorded.Made r
 unfolding theReading recordedOf first
@@ -218,4 +226,6 @@ reading n s r e = go (within1to n 64) refl (readable n s) refl
 
 -- the bytes of a record that was read are those it was read from
 pub writes-back : (n : ℕ) (s : List ℕ) (r : Record) → theReading n s ≡ Recorded.Made r → Bytes s → recordBytes r ≡ s
-writes-back n s r e h = let k : SpeltIn n s r = reading n s r e in ap recordBytes (sym (k .spells)) ∙ recordBytes-recordAt s h (k .size) (k .low)
+writes-back n s r e h =
+    let k : SpeltIn n s r = reading n s r e in
+    ap recordBytes (sym (k .spells)) ∙ recordBytes-recordAt s h (k .size) (k .low)

@@ -7,7 +7,8 @@ use native.Mathlib.Nat.{le-refl, lt-of-lt-of-le, lt-of-le-of-lt, zero-add, suc-a
 use native.Mathlib.Omega.{arith}
 use native.Mathlib.Decide.{decLt}
 use lib.ListN.{length, take, drop, length-drop, List·getD-eq-default}
-use lib.Seq.{getD-take, getD-drop, length-take-le, take-add, take-nil, take-take, take-append-le, drop-append-le, drop-append-add, drop-drop}
+use lib.Seq.{getD-take, getD-drop, length-take-le, take-add, take-nil, take-take, take-append-le}
+use lib.Seq.{drop-append-le, drop-append-add, drop-drop}
 use lib.Dec.{ltb, leb}
 use borrow.Author.Tests.{ltb-true, leb-true, lt-ltb, le-ltb, eq-eqb, eqb-true}
 use Rattle.sets.specs.Sets.{union, empty, within, full, gather, every, has}

@@ -54,7 +54,8 @@ fn arrows_named<'a>(
     count: usize,
 ) -> Seen
     requires { ⌜ (count ≤ 64) × Reach count (now conditions) (now responses) (now includes) (now excludes) ⌝ }
-    ensures { λ r. ⌜ r .all ≡ gather count (rowsTogether (now (conditions .entry)) (now (responses .entry)) (now (includes .entry)) (now (excludes .entry))) ⌝ }
+    ensures { λ r. ⌜ r .all ≡ gather count
+        (rowsTogether (now (conditions .entry)) (now (responses .entry)) (now (includes .entry)) (now (excludes .entry))) ⌝ }
     ensures { λ r. ⌜ r .both ≡ gather count (rowsShared (now (includes .entry)) (now (excludes .entry))) ⌝ }
 {
     let mut all = 0;
@@ -156,7 +157,8 @@ fn arrows_full<'a>(
     excludes: &'a [u64],
 ) -> Arrows
     requires { ⌜ Sized 64 (now conditions) (now responses) (now includes) (now excludes) ⌝ }
-    ensures { λ r. ⌜ r .fit ≡ arrowRowsFit 64 (now (conditions .entry)) (now (responses .entry)) (now (includes .entry)) (now (excludes .entry)) ⌝ }
+    ensures { λ r. ⌜ r .fit ≡ arrowRowsFit 64 (now (conditions .entry)) (now (responses .entry))
+        (now (includes .entry)) (now (excludes .entry)) ⌝ }
     ensures { λ r. ⌜ r .apart ≡ kindsApart 64 (now (includes .entry)) (now (excludes .entry)) ⌝ }
 {
     let both = arrows_shared(includes, excludes);
@@ -174,7 +176,8 @@ pub fn arrows_checked<'a>(
     excludes: &'a [u64],
 ) -> Arrows
     requires { ⌜ (steps ≤ 64) × Sized 64 (now conditions) (now responses) (now includes) (now excludes) ⌝ }
-    ensures { λ r. ⌜ r .fit ≡ arrowRowsFit steps (now (conditions .entry)) (now (responses .entry)) (now (includes .entry)) (now (excludes .entry)) ⌝ }
+    ensures { λ r. ⌜ r .fit ≡ arrowRowsFit steps (now (conditions .entry)) (now (responses .entry))
+        (now (includes .entry)) (now (excludes .entry)) ⌝ }
     ensures { λ r. ⌜ r .apart ≡ kindsApart steps (now (includes .entry)) (now (excludes .entry)) ⌝ }
 {
     if steps == 64 {

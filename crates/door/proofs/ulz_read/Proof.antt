@@ -1,5 +1,5 @@
--- `ulz_read`: the number of the verdict; the block as the reader leaves it; and the first marking, which is kept only where the verdict is clear,
--- so that what it is otherwise does not matter. Assumes nothing.
+-- `ulz_read`: the number of the verdict; the block as the reader leaves it; and the first marking, which is kept only where the verdict is
+-- clear, so that what it is otherwise does not matter. Assumes nothing.
 use borrow.Author.Needs.{needs}
 use Rattle.answers.specs.Laws.{clear-twice}
 use Rattle.door.proofs.ulz_read.Statement.{statement}

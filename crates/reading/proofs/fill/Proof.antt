@@ -84,7 +84,8 @@ read-roles-requires-2 c κs =
     let rows = table-rows start in
     let whole = start .pre .1 in
     let stored = counts-stored (start .args .block .now) (copied .before .before .before .counts .result) in
-    let n : length (bodyAt s 3) ≡ 2 * countsOf s .people = body-length s (placed start) 3 (lit< tt) ∙ right start .matched .people-match in (
+    let n : length (bodyAt s 3) ≡ 2 * countsOf s .people =
+    body-length s (placed start) 3 (lit< tt) ∙ right start .matched .people-match in (
       search needs,
       omega (arith, ap length (c .before .body2 .ensures)),
       omega (

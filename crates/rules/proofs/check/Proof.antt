@@ -118,7 +118,8 @@ graph done = graphOf (passed done .before .before .before .before .before .args 
 counted : (done : tie.After-roles-fit) → not (countsFit (graph done .steps) (graph done .people) (graph done .roles)) ≡ false
 counted done = ap not (sym (passed done .before .counts-fit .ensures)) ∙ passed done .if1 .left
 
-fit : (done : tie.After-roles-fit) → setsFit (graph done) ≡ (done .roles-fit .result && done .before .before .before .arrows-checked .result .fit)
+fit : (done : tie.After-roles-fit)
+    → setsFit (graph done) ≡ (done .roles-fit .result && done .before .before .before .arrows-checked .result .fit)
 unfolding setsFit
 fit done = sym (ap₂ _&&_ (done .roles-fit .ensures) (done .before .before .before .arrows-checked .ensures .0))
 

@@ -1,4 +1,5 @@
--- `tables::arrows_checked`: what the four tables name together, below and beyond the count, tells whether each keeps to it. Assumes nothing.
+-- `tables::arrows_checked`: what the four tables name together, below and beyond the count, tells whether each keeps to it. Assumes
+-- nothing.
 use Prim.Native.Nat.{ℕ}
 use mathlib.Core.Path.{_∙_, sym, ap}
 use Rattle.tables.specs.Tables.{arrowRowsFit, kindsApart}

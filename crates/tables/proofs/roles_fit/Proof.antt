@@ -1,4 +1,5 @@
--- `tables::roles_fit`: what the two tables name together, below and beyond the counts, tells whether each keeps to its counts. Assumes nothing.
+-- `tables::roles_fit`: what the two tables name together, below and beyond the counts, tells whether each keeps to its counts. Assumes
+-- nothing.
 use Prim.Native.Nat.{ℕ}
 use mathlib.Core.Path.{sym, ap, _∙_}
 use native.Mathlib.Omega.{arith}

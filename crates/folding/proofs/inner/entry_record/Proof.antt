@@ -1,5 +1,5 @@
--- `inner::entry_record`: an entry whose role serves is a step's record, and any other is never; a number beyond any graph's is unknown to this one.
--- Assumes nothing.
+-- `inner::entry_record`: an entry whose role serves is a step's record, and any other is never; a number beyond any graph's is unknown to
+-- this one. Assumes nothing.
 use Prim.Native.Nat.{_≤_}
 use mathlib.Core.Path.{_≡_, sym, _∙_, ap}
 use mathlib.Core.Bool.{true, false, _&&_}

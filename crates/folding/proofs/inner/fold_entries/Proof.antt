@@ -1,5 +1,5 @@
--- `inner::fold_entries`: at each turn the whole journal's record is the one at hand composed with the entries left; it is tidied once, at the
--- end, and that gives the fold. Assumes nothing.
+-- `inner::fold_entries`: at each turn the whole journal's record is the one at hand composed with the entries left; it is tidied once, at
+-- the end, and that gives the fold. Assumes nothing.
 use Prim.Native.Nat.{_+_, _*_, _-_, _^_, _≤_, _<_}
 use mathlib.Core.Path.{_≡_, refl, sym, _∙_, ap}
 use mathlib.Core.Bool.{true}

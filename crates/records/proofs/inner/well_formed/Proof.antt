@@ -8,8 +8,9 @@ full-requires c κs = c .before .before .before .before .before .before .before 
 
 returns : tie.Need-returns
 returns c =
-    let a = c .before .before .before .before .before .before .before .before .before .before .before .before .before .before .before .args in
-    simp (c .before .full .ensures) (well-formed-sum (a .n) (a .r))
+    let bound = c .before in
+    let a = bound .before .before .before .before .before .before .before .before .before .before .before .before .before .before .args in
+    simp (bound .full .ensures) (well-formed-sum (a .n) (a .r))
 
 pub well-formed-spec : {M : Type 1} → statement M
 well-formed-spec = tie.close (tie.spec full-requires returns)
