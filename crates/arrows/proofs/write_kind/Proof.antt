@@ -16,13 +16,13 @@ use Rattle.arrows.proofs.write_kind.Statement.{statement}
 use Rattle.arrows.proofs.write_kind.Tie as tie
 
 -- the first rows are written, and the room is as long as it was
-record Rows (k n : ℕ) (rows old : List ℕ) (at : ℕ) (room : List ℕ) (to a : ℕ) : Type 0 where
+record RowsWritten (k n : ℕ) (rows old : List ℕ) (at : ℕ) (room : List ℕ) (to a : ℕ) : Type 0 where
   few : a ≤ n
   long : length room ≡ length old
   spliced : Spliced (spelt (kindArrows k a (row rows))) at old room to
 
 abbrev Inv-loop : tie.InvT-loop
-Inv-loop k n rows room₀ at to₀ a₀ room to a = Rows k n rows room₀ at room to a
+Inv-loop k n rows room₀ at to₀ a₀ room to a = RowsWritten k n rows room₀ at room to a
 
 abbrev μ-loop : tie.MeasureT-loop
 μ-loop k n rows room₀ at to₀ a₀ room to a = n - a
