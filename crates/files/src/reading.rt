@@ -9,6 +9,25 @@ pub struct Got {
     pub failed: bool,
 }
 
+// How often a read that a signal broke off is begun again.
+const AGAIN: usize = 100;
+
+// One read, begun again where a signal came before the first byte.
+fn read_some(fd: i32, part: &mut [u8]) -> isize {
+    let mut tries = 0;
+    while tries < AGAIN {
+        let got = libc::read(fd, part);
+        if 0 <= got {
+            return got;
+        }
+        if os::errno() != libc::EINTR {
+            return got;
+        }
+        tries += 1;
+    }
+    -1
+}
+
 // Reads until the room is full or the input ends.
 fn read_all(fd: i32, room: &mut [u8]) -> Got
     ensures { λ r. ⌜ Counts (r .length) (now (room .exit)) ⌝ }
@@ -16,7 +35,7 @@ fn read_all(fd: i32, room: &mut [u8]) -> Got
     let mut done = 0;
     while done < room.len() {
         let part = &mut room[done..];
-        let got = libc::read(fd, part);
+        let got = read_some(fd, part);
         if got < 0 {
             return Got {
                 length: 0,

@@ -26,8 +26,8 @@ part-part-start c = search needs
 part-part-end : tie.Need-part-part-end Inv-loop μ-loop
 part-part-end c = search needs
 
-read-requires : tie.Need-read-requires Inv-loop μ-loop
-read-requires c κs = search needs
+read-some-requires : tie.Need-read-some-requires Inv-loop μ-loop
+read-some-requires c κs = search needs
 
 same-length : tie.Need-same-length Inv-loop μ-loop
 same-length c = search needs
@@ -69,7 +69,7 @@ read-all-spec =
     sub-part
     part-part-start
     part-part-end
-    read-requires
+    read-some-requires
     same-length
     returns
     count-requires

@@ -1,0 +1,92 @@
+// Numbers 11 to 15: what an entry that is not allowed meets of the graph and of the marking.
+use crate::words::say_expected;
+use crate::words::say_found as say_it;
+use crate::words::say_known;
+use crate::words::say_steps;
+use crate::words::say_wanted;
+use lines::page::Page;
+use lines::say::say;
+use lines::say::say_number;
+use lines::say::say_set;
+use moves::Entry;
+use moves::Marking;
+use moves::inner::Row;
+use moves::inner::waits;
+use rules::Job;
+use rules::inner::row_at;
+
+fn say_one(page: &mut Page, what: &[u8], i: u8) {
+    say_it(page, what);
+    say_number(page, i as u64);
+}
+
+fn say_unknown(page: &mut Page, g: &Job, e: Entry) {
+    let steps = g[0];
+    let people = g[1];
+    let roles = g[2];
+    if people <= e.person as u64 {
+        say_one(page, b"person ", e.person);
+        say_known(page, b"people", people);
+        return;
+    }
+    if steps <= e.step.0 as u64 {
+        say_one(page, b"step ", e.step.0);
+        say_known(page, b"steps", steps);
+        return;
+    }
+    say_one(page, b"role ", e.role);
+    say_known(page, b"roles", roles);
+}
+
+fn say_roles(page: &mut Page, roles: u64, wants: u8) {
+    say(page, b", roles ");
+    say_set(page, roles);
+    say_expected(page, b"role ");
+    say_number(page, wants as u64);
+    say(page, b" among them\n");
+}
+
+fn say_waits(page: &mut Page, open: u64, step: u8) {
+    say_steps(page, open);
+    say(page, b", included and not done");
+    say_expected(page, b"done before step ");
+    say_number(page, step as u64);
+    say(page, b"\n");
+}
+
+// On the row of the entry's person and step. Numbers 12 to 15.
+fn say_row(page: &mut Page, w: Row, m: Marking, e: Entry, number: u8) {
+    match number {
+        12 => {
+            say_one(page, b"person ", e.person);
+            say_roles(page, w.held, e.role);
+        }
+        13 => {
+            say_one(page, b"step ", e.step.0);
+            say_roles(page, w.allows, e.role);
+        }
+        14 => {
+            say_one(page, b"step ", e.step.0);
+            say(page, b", excluded");
+            say_wanted(page, b"included");
+        }
+        15 => say_waits(page, waits(w.conditions, m), e.step.0),
+        _ => {}
+    }
+}
+
+pub fn say_found(page: &mut Page, g: &Job, m: Marking, e: Entry, number: u8) {
+    let p = e.person;
+    let s = e.step.0;
+    if number == 11 {
+        say_unknown(page, g, e);
+        return;
+    }
+    if 15 < p {
+        return;
+    }
+    if 63 < s {
+        return;
+    }
+    say_row(page, row_at(g, p, s), m, e, number);
+}
