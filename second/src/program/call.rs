@@ -1,4 +1,7 @@
-use super::{files, Answers, Command, Lines, COMMANDS};
+use super::{
+    files::{self, Input},
+    Answers, Command, Lines, COMMANDS,
+};
 
 /// What a call has to say: on standard output, on standard error, and by its exit status, which is 0 when it is answered, 1 when
 /// it is refused with a number, and 2 for wrong use or a file that cannot be read or written.
@@ -76,12 +79,12 @@ fn number(word: &str) -> Option<u64> {
     digits.then(|| word.parse().unwrap_or(u64::MAX))
 }
 
-fn input(kind: &str, name: &str) -> Result<Vec<u8>, String> {
-    let bytes = files::read(name)?;
-    if kind == "MARKING" && bytes.len() != 24 {
+fn input(kind: &str, name: &str) -> Result<Input, String> {
+    let input = files::read(name)?;
+    if kind == "MARKING" && input.len() != 24 {
         return Err(format!("{name}: a marking has 24 bytes"));
     }
-    Ok(bytes)
+    Ok(input)
 }
 
 /// Writes the file, if there is to be one, and says so after the other lines.

@@ -1,6 +1,6 @@
 //! What an answer looks like: lines `key: value`.
 
-use super::refusals;
+use super::{files::Input, findings::Finding, refusals};
 use crate::data::{Entry, Record, Track};
 use crate::model::{members, Marking};
 use std::fmt::{Display, Write};
@@ -28,6 +28,20 @@ impl Lines {
     /// A refusal's own line.
     pub fn refused(number: u64) -> Self {
         Lines::default().say("refused", format_args!("{number} {}", refusals::words(number)))
+    }
+
+    /// A refusal for what a file holds: its line, the file, and what made the number hold.
+    pub fn refused_for(number: u64, file: &Input, finding: Option<Finding>) -> Self {
+        let name = file.name.replace(char::is_control, "?");
+        Lines::refused(number).say("file", name).finding(finding)
+    }
+
+    /// What was found, and what was expected there.
+    pub fn finding(self, finding: Option<Finding>) -> Self {
+        match finding {
+            Some(Finding { found, expected }) => self.say("found", found).say("expected", expected),
+            None => self,
+        }
     }
 
     /// The entry that was refused with this number, and the step that it waits for where that is the reason.

@@ -2,6 +2,7 @@
 
 mod call;
 mod files;
+pub(crate) mod findings;
 mod generate;
 mod journals;
 mod lines;
@@ -12,6 +13,7 @@ mod sheets;
 pub use call::{call, Told};
 pub use generate::generate;
 
+use files::Input;
 use lines::Lines;
 
 /// The lines of an answer with the bytes for its file, if it is to have one; or the lines of a refusal.
@@ -26,10 +28,10 @@ struct Command {
 
 /// By what is read: files, and in the last case a number before them.
 enum Answers {
-    One(fn(&[u8]) -> Reply),
-    Two(fn(&[u8], &[u8]) -> Reply),
-    Three(fn(&[u8], &[u8], &[u8]) -> Reply),
-    Counted(fn(u64, &[u8], &[u8]) -> Reply),
+    One(fn(&Input) -> Reply),
+    Two(fn(&Input, &Input) -> Reply),
+    Three(fn(&Input, &Input, &Input) -> Reply),
+    Counted(fn(u64, &Input, &Input) -> Reply),
 }
 
 use Answers::{Counted, One, Three, Two};

@@ -1,4 +1,6 @@
 use super::{
+    files::Input,
+    findings,
     lines::{set, Lines},
     Reply,
 };
@@ -7,24 +9,24 @@ use crate::model::{self, targets, Graph, Marking};
 /// More than any sheet is long.
 const ROOM: usize = 40_000;
 
-pub fn read(sheet: &[u8]) -> Result<(Graph, Marking), Lines> {
-    model::sheet::read(sheet).map_err(Lines::refused)
+pub fn read(sheet: &Input) -> Result<(Graph, Marking), Lines> {
+    model::sheet::read(sheet).map_err(|number| Lines::refused_for(number, sheet, findings::sheet(sheet, number)))
 }
 
-pub fn check(sheet: &[u8]) -> Reply {
+pub fn check(sheet: &Input) -> Reply {
     let (g, _) = read(sheet)?;
     let lines = counts(Lines::default().say("sheet", "ok"), &g);
     Ok((lines.say("arrows", arrows(&g)), Vec::new()))
 }
 
-pub fn show(sheet: &[u8]) -> Reply {
+pub fn show(sheet: &Input) -> Reply {
     let (g, m) = read(sheet)?;
     let lines = people(counts(Lines::default(), &g), &g);
     let lines = arrow_by_arrow(steps(lines, &g, &m), &g);
     Ok((lines.say("arrows", arrows(&g)).ending(&m), Vec::new()))
 }
 
-pub fn write(sheet: &[u8]) -> Reply {
+pub fn write(sheet: &Input) -> Reply {
     let (g, m) = read(sheet)?;
     let written = model::sheet::write(&g, m.write(), ROOM).map_err(Lines::refused)?;
     Ok((Lines::default(), written))

@@ -41,7 +41,8 @@ impl Folder {
 
     fn told(&self, words: &str, status: u8, lines: &[&str]) {
         let told = self.call(words);
-        assert_eq!((told.status, told.out.lines().collect::<Vec<_>>()), (status, lines.to_vec()), "{words}");
+        let out = told.out.replace(&format!("{}/", self.0.display()), "");
+        assert_eq!((told.status, out.lines().collect::<Vec<_>>()), (status, lines.to_vec()), "{words}");
         assert_eq!(told.err.lines().count(), usize::from(status == 2), "{words}");
     }
 }
@@ -56,15 +57,16 @@ impl Drop for Folder {
 fn the_accident() {
     let folder = Folder::new("accident");
     let rebooted = ["done: 0", "due: 1", "included: 0 1"];
-    let at = |entry| [&["refused: 14 the step is not included", entry], &rebooted[..]].concat();
+    let why = ["refused: 14 the step is not included", "file: late", "found: step 2, excluded", "expected: included"];
+    let at = |entry| [&why[..], &[entry], &rebooted].concat();
     folder.told("run job.sheet late", 1, &at("entry 1: person 1, step 2, role 1"));
     assert_eq!(folder.call("fold job.sheet reboot record").status, 0);
     folder.told("restore job.sheet record late out", 1, &at("entry 1: person 1, step 2, role 1"));
     let checked = ["entries: 1", "done: 0 1", "due: none", "included: 0 1 2", "finished: yes"];
     folder.told("restore job.sheet record check", 0, &checked);
     folder.told("lap job.sheet check reboot", 0, &["verdict: starved", "starved step: 1"]);
-    let pass = ["refused: 14 the step is not included", "pass: 1, first lap", "entry 1: person 1, step 2, role 1"];
-    folder.told("lap job.sheet check late", 1, &pass);
+    let pass = ["pass: 1, first lap", "entry 1: person 1, step 2, role 1"];
+    folder.told("lap job.sheet check late", 1, &[&why[..], &pass].concat());
 }
 
 #[test]
@@ -80,7 +82,11 @@ fn files_and_wrong_use() {
     }
     folder.told("apply 3 reboot late", 2, &[]);
     folder.put("marking", &[0; 24]);
-    folder.told("apply 256 reboot marking", 1, &["refused: 2 a count is out of range"]);
+    folder.told(
+        "apply 256 reboot marking",
+        1,
+        &["refused: 2 a count is out of range", "found: N is 256", "expected: 1 to 64"],
+    );
     folder.told("apply -1 reboot marking", 2, &[]);
 }
 
