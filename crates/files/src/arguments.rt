@@ -190,9 +190,9 @@ pub fn called() -> Call {
     c
 }
 
-// A number from 0 to 255, or no number.
+// A number, or none.
 pub enum Number {
-    Is(u8),
+    Is(u64),
     None,
 }
 
@@ -211,20 +211,26 @@ fn all_digits(word: &[u8]) -> bool {
     true
 }
 
-// One digit more; what passes 255 is 255.
-fn with_digit(v: u8, b: u8) -> u8 {
+// What does not fit a word is the largest that does.
+const MOST: u64 = 18446744073709551615;
+
+// One digit more.
+fn with_digit(v: u64, b: u8) -> u64 {
     if b < b'0' {
         return v;
     }
-    let digit = (b - b'0') as u64;
-    let wide = 10 * (v as u64) + digit;
-    if 255 < wide {
-        return 255;
+    if 1844674407370955160 < v {
+        return MOST;
     }
-    wide as u8
+    let ten = 10 * v;
+    let digit = (b - b'0') as u64;
+    if MOST - ten < digit {
+        return MOST;
+    }
+    ten + digit
 }
 
-fn value(word: &[u8]) -> u8 {
+fn value(word: &[u8]) -> u64 {
     let mut v = 0;
     let mut i = 0;
     while i < word.len() {

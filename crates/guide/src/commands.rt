@@ -7,11 +7,14 @@ pub enum Command {
     Write,
     May,
     Run,
+    Finished,
     Fold,
     Join,
     Apply,
     Restore,
     Record,
+    Marking,
+    Entries,
     Lap,
     Track,
     Sample,
@@ -20,22 +23,29 @@ pub enum Command {
 }
 
 // The operands of a command: is the first one N, how many stand before the file to write, and how few and how many there may be.
+// Then the options that not every command takes.
 pub struct Shape {
     pub numbered: bool,
     pub out: usize,
     pub least: usize,
     pub most: usize,
+    pub from: bool,
+    pub status: bool,
+    pub never: bool,
 }
 
 fn named_later(word: &[u8]) -> Command {
-    if same(word, b"apply") {
-        return Command::Apply;
-    }
     if same(word, b"restore") {
         return Command::Restore;
     }
     if same(word, b"record") {
         return Command::Record;
+    }
+    if same(word, b"marking") {
+        return Command::Marking;
+    }
+    if same(word, b"entries") {
+        return Command::Entries;
     }
     if same(word, b"lap") {
         return Command::Lap;
@@ -68,11 +78,17 @@ pub fn named(word: &[u8]) -> Command {
     if same(word, b"run") {
         return Command::Run;
     }
+    if same(word, b"finished") {
+        return Command::Finished;
+    }
     if same(word, b"fold") {
         return Command::Fold;
     }
     if same(word, b"join") {
         return Command::Join;
+    }
+    if same(word, b"apply") {
+        return Command::Apply;
     }
     named_later(word)
 }
@@ -83,7 +99,27 @@ fn shaped(numbered: bool, out: usize, least: usize, most: usize) -> Shape {
         out: out,
         least: least,
         most: most,
+        from: false,
+        status: false,
+        never: false,
     }
+}
+
+// Starts at any marking.
+fn starting(mut s: Shape) -> Shape {
+    s.from = true;
+    s
+}
+
+// Has a yes and a no.
+fn asking(mut s: Shape) -> Shape {
+    s.status = true;
+    s
+}
+
+fn folding(mut s: Shape) -> Shape {
+    s.never = true;
+    s
 }
 
 pub fn shape_of(c: Command) -> Shape {
@@ -91,15 +127,18 @@ pub fn shape_of(c: Command) -> Shape {
         Command::Check => shaped(false, 1, 1, 1),
         Command::Show => shaped(false, 1, 1, 1),
         Command::Write => shaped(false, 1, 2, 2),
-        Command::May => shaped(false, 2, 2, 2),
-        Command::Run => shaped(false, 2, 2, 3),
-        Command::Fold => shaped(false, 2, 3, 3),
+        Command::May => starting(shaped(false, 2, 2, 2)),
+        Command::Run => starting(shaped(false, 2, 2, 3)),
+        Command::Finished => asking(shaped(false, 2, 2, 2)),
+        Command::Fold => folding(shaped(false, 2, 3, 3)),
         Command::Join => shaped(true, 3, 4, 4),
         Command::Apply => shaped(true, 3, 3, 4),
         Command::Restore => shaped(false, 3, 3, 4),
         Command::Record => shaped(false, 1, 1, 1),
-        Command::Lap => shaped(false, 3, 3, 3),
-        Command::Track => shaped(false, 2, 2, 2),
+        Command::Marking => shaped(false, 1, 1, 1),
+        Command::Entries => shaped(false, 1, 1, 1),
+        Command::Lap => starting(asking(shaped(false, 3, 3, 3))),
+        Command::Track => starting(shaped(false, 2, 2, 2)),
         Command::Sample => shaped(false, 0, 0, 1),
         Command::Help => shaped(false, 0, 0, 1),
         Command::Unknown => shaped(false, 0, 0, 0),

@@ -18,15 +18,22 @@ fn say_commands(page: &mut Page) {
     say_command(page, Command::Write);
     say_command(page, Command::May);
     say_command(page, Command::Run);
+    say_command(page, Command::Finished);
     say_command(page, Command::Fold);
     say_command(page, Command::Join);
     say_command(page, Command::Apply);
     say_command(page, Command::Restore);
     say_command(page, Command::Record);
+    say_command(page, Command::Marking);
+    say_command(page, Command::Entries);
     say_command(page, Command::Lap);
     say_command(page, Command::Track);
     say_command(page, Command::Sample);
     say_command(page, Command::Help);
+}
+
+pub fn say_version(page: &mut Page) {
+    say(page, b"ulz 0.2.0\n");
 }
 
 pub fn say_help(page: &mut Page) {
@@ -37,11 +44,10 @@ pub fn say_help(page: &mut Page) {
     say_commands(page);
     say(
         page,
-        b"A file may be '-', standard input, once in a call. OUT is a new file; --force writes over one that exists.\n",
-    );
-    say(
-        page,
-        b"Exit status: 0 answered; 1 refused, by a line 'refused: NUMBER WORDS'; 2 wrong use, or a file that cannot be read or written.\n",
+        b"A file may be '-', standard input, once in a call. OUT is a new file; --force writes over one that exists, but never over\n\
+          one that the call reads. '--' ends the options; -h or --help is help, also behind a command; --version is the version.\n\
+          Exit status: 0 answered; 1 refused, by a line 'refused: NUMBER WORDS'; 2 wrong use, or a file or an output that cannot be\n\
+          read or written whole.\n",
     );
 }
 

@@ -13,6 +13,7 @@ pub fn say_phrase(page: &mut Page, c: Command) {
             page,
             b"where the journal ends, or its first entry that is not allowed\n",
         ),
+        Command::Finished => say(page, b"is the job finished after the journal?\n"),
         Command::Fold => say(page, b"folds the journal into a record\n"),
         Command::Join => say(
             page,
@@ -21,6 +22,8 @@ pub fn say_phrase(page: &mut Page, c: Command) {
         Command::Apply => say(page, b"what the record makes of the marking, for N steps\n"),
         Command::Restore => say(page, b"goes on from a record with the rest of a journal\n"),
         Command::Record => say(page, b"what the record needs and does\n"),
+        Command::Marking => say(page, b"the three sets of a marking\n"),
+        Command::Entries => say(page, b"the entries of a journal, in words\n"),
         Command::Lap => say(page, b"is the stem, then the lap without end, accepted?\n"),
         Command::Track => say(page, b"the tracker's rank and flag, entry by entry\n"),
         Command::Sample => say(
@@ -35,165 +38,149 @@ pub fn say_phrase(page: &mut Page, c: Command) {
 fn say_check_page(page: &mut Page) {
     say(
         page,
-        b"Prints 'sheet: ok' and the number of steps, people, roles and arrows.\n",
+        b"Prints 'sheet: ok' and the number of steps, people, roles and arrows.\n\
+          Refusals: 1 to 6.\n",
     );
-    say(page, b"Refusals: 1 to 6.\n");
 }
 
 fn say_show_page(page: &mut Page) {
     say(
         page,
-        b"Prints each person's roles, each step with its roles and its place in the first marking, each arrow in words,\n",
+        b"Prints each person's roles, each step with its roles and its place in the first marking, each arrow in words,\n\
+          and whether the job is finished there; if not, the steps to do, those both due and included.\n\
+          Refusals: 1 to 6.\n",
     );
-    say(
-        page,
-        b"and whether the job is finished there; if not, the steps to do, those both due and included.\n",
-    );
-    say(page, b"Refusals: 1 to 6.\n");
 }
 
 fn say_write_page(page: &mut Page) {
     say(
         page,
-        b"Reads the sheet and writes the graph and the first marking that it holds: the same bytes.\n",
+        b"Reads the sheet and writes the graph and the first marking that it holds: the same bytes.\n\
+          Refusals: 1 to 6.\n",
     );
-    say(page, b"Refusals: 1 to 6.\n");
 }
 
 fn say_may_page(page: &mut Page) {
     say(
         page,
-        b"Runs the journal from the sheet's first marking, then prints a line 'may' for each person and role that may take a step.\n",
-    );
-    say(
-        page,
-        b"A step that nobody may take is 'blocked', with the reason: not included, what it waits for, or nobody holds its roles.\n",
-    );
-    say(
-        page,
-        b"Refusals: 1 to 6, 7, then 11 to 15 of the first entry not allowed.\n",
+        b"Runs the journal, then prints a line 'may' for each person and role that may take a step.\n\
+          A step that nobody may take is 'blocked', with the reason: not included, what it waits for, or nobody holds its roles.\n\
+          It starts at the sheet's first marking, or with --from at that of a file of 24 bytes.\n\
+          Refusals: 1 to 6, 7, 8, then 11 to 15 of the first entry not allowed.\n",
     );
 }
 
 fn say_run_page(page: &mut Page) {
     say(
         page,
-        b"Prints the number of entries, the marking at the end (done, due, included), and whether the job is finished.\n",
+        b"Prints the number of entries, the marking at the end (done, due, included), and whether the job is finished.\n\
+          A refused entry is printed with what it waits for, if it does, and the marking before it.\n\
+          OUT gets the marking at the end, 24 bytes, and --from takes such a file to start at.\n\
+          Refusals: 1 to 6, 7, 8, then 11 to 15 of the first entry not allowed.\n",
     );
+}
+
+fn say_finished_page(page: &mut Page) {
     say(
         page,
-        b"A refused entry is printed with what it waits for, if it does, and the marking before it.\n",
-    );
-    say(page, b"OUT gets the marking at the end, 24 bytes.\n");
-    say(
-        page,
-        b"Refusals: 1 to 6, 7, then 11 to 15 of the first entry not allowed.\n",
+        b"Prints 'finished: yes', or 'finished: no' and the steps to do, those both due and included.\n\
+          With --status the exit status is 0 for yes, 1 for no and 2 for anything else, a refusal among them.\n\
+          Refusals: 1 to 6, 7, then 11 to 15 of the first entry not allowed.\n",
     );
 }
 
 fn say_fold_page(page: &mut Page) {
     say(
         page,
-        b"Prints the record and writes its 65 bytes to OUT. It acts as the journal does, at every marking.\n",
+        b"Prints the record and writes its 65 bytes to OUT. It acts as the journal does, at every marking.\n\
+          Where no marking allows the journal, it says because of which entry and writes nothing; with --never it writes the record\n\
+          that says so.\n\
+          Refusals: 1 to 6, 7.\n",
     );
-    say(
-        page,
-        b"A journal that no marking allows folds to 'never: yes'.\n",
-    );
-    say(page, b"Refusals: 1 to 6, 7.\n");
 }
 
 fn say_join_page(page: &mut Page) {
     say(
         page,
-        b"Prints the joined record and writes its 65 bytes to OUT.\n",
-    );
-    say(
-        page,
-        b"Refusals: 2 (N is not 1 to 64), 10 (a record is not well-formed for N steps).\n",
+        b"Prints the joined record and writes its 65 bytes to OUT.\n\
+          Refusals: 2 (N is not 1 to 64), 10 (a record is not well-formed for N steps).\n",
     );
 }
 
 fn say_apply_page(page: &mut Page) {
     say(
         page,
-        b"MARKING has 24 bytes: done, due, included, 8 bytes each, lowest byte first. Prints the marking after; OUT gets it.\n",
-    );
-    say(
-        page,
-        b"Refusals: 2, 8, 10, and 16 where the record does not apply, with the marking as it was.\n",
+        b"MARKING has 24 bytes: done, due, included, 8 bytes each, lowest byte first. Prints the marking after; OUT gets it.\n\
+          Refusals: 2, 8, 10, and 16 where the record does not apply, with the marking as it was.\n",
     );
 }
 
 fn say_restore_page(page: &mut Page) {
     say(
         page,
-        b"From the sheet's first marking: the record, then the entries. Prints what 'run' prints; entries count in the rest.\n",
-    );
-    say(
-        page,
-        b"Refusals: 1 to 6, 7, 10, 16 where the record does not apply, then 11 to 15 of the first entry not allowed.\n",
+        b"From the sheet's first marking: the record, then the entries. Prints what 'run' prints; entries count in the rest.\n\
+          Refusals: 1 to 6, 7, 10, 16 where the record does not apply, then 11 to 15 of the first entry not allowed.\n",
     );
 }
 
 fn say_record_page(page: &mut Page) {
     say(
         page,
-        b"Prints the record, read for 64 steps: what it needs of a marking, and what it then does to it.\n",
+        b"Prints the record, read for 64 steps: what it needs of a marking, and what it then does to it.\n\
+          Refusals: 10.\n",
     );
-    say(page, b"Refusals: 10.\n");
+}
+
+fn say_marking_page(page: &mut Page) {
+    say(
+        page,
+        b"Prints which steps are done, due and included. A marking has 24 bytes; 'run' and 'apply' write one, --from takes one.\n",
+    );
+}
+
+fn say_entries_page(page: &mut Page) {
+    say(
+        page,
+        b"Prints the number of entries, then each with its person, step and role, whatever a sheet would say to it.\n\
+          Refusals: 7.\n",
+    );
 }
 
 fn say_lap_page(page: &mut Page) {
     say(
         page,
-        b"Prints 'accepted' where each step that becomes due is later done or seen excluded, else 'starved' and the lowest step\n",
-    );
-    say(page, b"that stays due and included and is never done.\n");
-    say(
-        page,
-        b"A refused entry is printed with its pass: 0 stem, 1 first lap, 2 second lap, 3 a later one.\n",
-    );
-    say(
-        page,
-        b"Refusals: 1 to 6, 7, 17 (the lap is empty), then 11 to 15.\n",
+        b"Prints 'accepted' where each step that becomes due is later done or seen excluded, else 'starved' and the lowest step\n\
+          that stays due and included and is never done.\n\
+          A refused entry is printed with its pass: 0 stem, 1 first lap, 2 second lap, 3 a later one.\n\
+          It starts at the sheet's first marking, or with --from at that of a file of 24 bytes. With --status the exit status is\n\
+          0 for accepted, 1 for starved and 2 for anything else, a refusal among them.\n\
+          Refusals: 1 to 6, 7, 8, 17 (the lap is empty), then 11 to 15.\n",
     );
 }
 
 fn say_track_page(page: &mut Page) {
     say(
         page,
-        b"Prints the rank and the flag at the start and after each entry, then the marking. Ranks count from 1: step 0 has rank 1.\n",
-    );
-    say(
-        page,
-        b"A refused entry is printed with the rank, flag and marking before it.\n",
-    );
-    say(
-        page,
-        b"Refusals: 1 to 6, 7, then 11 to 15 of the first entry not allowed.\n",
+        b"Prints the rank and the flag at the start and after each entry, then the marking. Ranks count from 1: step 0 has rank 1.\n\
+          A refused entry is printed with the rank, flag and marking before it.\n\
+          It starts at the sheet's first marking, or with --from at that of a file of 24 bytes.\n\
+          Refusals: 1 to 6, 7, 8, then 11 to 15 of the first entry not allowed.\n",
     );
 }
 
 fn say_sample_page(page: &mut Page) {
     say(
         page,
-        b"FOLDER ('sample', where none is named) is made if it is missing. Its files: job.sheet, start.marking, reboot.journal,\n",
-    );
-    say(
-        page,
-        b"check.journal, publish.journal, day.journal (all three) and empty.journal.\n",
-    );
-    say(
-        page,
-        b"Then the accident, line by line: a reboot must not lead to a publication before the order check, also not from a record.\n",
+        b"FOLDER ('sample', where none is named) is made if it is missing. Its files: job.sheet, start.marking, reboot.journal,\n\
+          check.journal, publish.journal, day.journal (all three) and empty.journal.\n\
+          Then the accident, line by line: a reboot must not lead to a publication before the order check, also not from a record.\n",
     );
 }
 
 fn say_help_page(page: &mut Page) {
     say(
         page,
-        b"'ulz help COMMAND' prints its use, what its lines mean and the numbers that it can be refused by.\n",
+        b"'ulz help COMMAND' and 'ulz COMMAND --help' print its use, what its lines mean and the numbers that it can be refused by.\n",
     );
 }
 
@@ -204,11 +191,14 @@ pub fn say_more(page: &mut Page, c: Command) {
         Command::Write => say_write_page(page),
         Command::May => say_may_page(page),
         Command::Run => say_run_page(page),
+        Command::Finished => say_finished_page(page),
         Command::Fold => say_fold_page(page),
         Command::Join => say_join_page(page),
         Command::Apply => say_apply_page(page),
         Command::Restore => say_restore_page(page),
         Command::Record => say_record_page(page),
+        Command::Marking => say_marking_page(page),
+        Command::Entries => say_entries_page(page),
         Command::Lap => say_lap_page(page),
         Command::Track => say_track_page(page),
         Command::Sample => say_sample_page(page),

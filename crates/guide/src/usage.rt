@@ -3,22 +3,54 @@ use crate::commands::Command;
 use lines::page::Page;
 use lines::say::say;
 
-pub fn say_use(page: &mut Page, c: Command) {
+pub fn say_command_word(page: &mut Page, c: Command) {
     match c {
-        Command::Check => say(page, b"ulz check SHEET"),
-        Command::Show => say(page, b"ulz show SHEET"),
-        Command::Write => say(page, b"ulz write SHEET OUT"),
-        Command::May => say(page, b"ulz may SHEET JOURNAL"),
-        Command::Run => say(page, b"ulz run SHEET JOURNAL [OUT]"),
-        Command::Fold => say(page, b"ulz fold SHEET JOURNAL OUT"),
-        Command::Join => say(page, b"ulz join N RECORD RECORD OUT"),
-        Command::Apply => say(page, b"ulz apply N RECORD MARKING [OUT]"),
-        Command::Restore => say(page, b"ulz restore SHEET RECORD JOURNAL [OUT]"),
-        Command::Record => say(page, b"ulz record RECORD"),
-        Command::Lap => say(page, b"ulz lap SHEET STEM LAP"),
-        Command::Track => say(page, b"ulz track SHEET JOURNAL"),
-        Command::Sample => say(page, b"ulz sample [FOLDER]"),
-        Command::Help => say(page, b"ulz help [COMMAND]"),
-        Command::Unknown => say(page, b"ulz COMMAND ARGUMENTS"),
+        Command::Check => say(page, b"check"),
+        Command::Show => say(page, b"show"),
+        Command::Write => say(page, b"write"),
+        Command::May => say(page, b"may"),
+        Command::Run => say(page, b"run"),
+        Command::Finished => say(page, b"finished"),
+        Command::Fold => say(page, b"fold"),
+        Command::Join => say(page, b"join"),
+        Command::Apply => say(page, b"apply"),
+        Command::Restore => say(page, b"restore"),
+        Command::Record => say(page, b"record"),
+        Command::Marking => say(page, b"marking"),
+        Command::Entries => say(page, b"entries"),
+        Command::Lap => say(page, b"lap"),
+        Command::Track => say(page, b"track"),
+        Command::Sample => say(page, b"sample"),
+        Command::Help => say(page, b"help"),
+        Command::Unknown => say(page, b"COMMAND"),
     }
+}
+
+fn say_operands(page: &mut Page, c: Command) {
+    match c {
+        Command::Check => say(page, b" SHEET"),
+        Command::Show => say(page, b" SHEET"),
+        Command::Write => say(page, b" SHEET OUT"),
+        Command::May => say(page, b" SHEET JOURNAL [--from MARKING]"),
+        Command::Run => say(page, b" SHEET JOURNAL [OUT] [--from MARKING]"),
+        Command::Finished => say(page, b" SHEET JOURNAL [--status]"),
+        Command::Fold => say(page, b" SHEET JOURNAL OUT [--never]"),
+        Command::Join => say(page, b" N RECORD RECORD OUT"),
+        Command::Apply => say(page, b" N RECORD MARKING [OUT]"),
+        Command::Restore => say(page, b" SHEET RECORD JOURNAL [OUT]"),
+        Command::Record => say(page, b" RECORD"),
+        Command::Marking => say(page, b" MARKING"),
+        Command::Entries => say(page, b" JOURNAL"),
+        Command::Lap => say(page, b" SHEET STEM LAP [--from MARKING] [--status]"),
+        Command::Track => say(page, b" SHEET JOURNAL [--from MARKING]"),
+        Command::Sample => say(page, b" [FOLDER]"),
+        Command::Help => say(page, b" [COMMAND]"),
+        Command::Unknown => say(page, b" ARGUMENTS"),
+    }
+}
+
+pub fn say_use(page: &mut Page, c: Command) {
+    say(page, b"ulz ");
+    say_command_word(page, c);
+    say_operands(page, c);
 }

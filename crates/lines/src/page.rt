@@ -68,7 +68,7 @@ fn put_at(page: &mut Page, n: usize, b: u8)
     page[HIGH] = (m / 256) as u8;
 }
 
-fn put(page: &mut Page, b: u8) {
+pub fn put(page: &mut Page, b: u8) {
     let n = length(page);
     if n < ROOM {
         put_at(page, n, b);

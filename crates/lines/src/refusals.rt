@@ -1,4 +1,5 @@
 // Refusals in words: what each number says, understandable by itself on a screen.
+use crate::names::say_file;
 use crate::page::Page;
 use crate::say::say;
 use crate::say::say_count;
@@ -38,22 +39,27 @@ fn say_high_words(page: &mut Page, number: u8) {
     }
 }
 
+pub fn say_words(page: &mut Page, number: u8) {
+    if number < 11 {
+        say_low_words(page, number);
+    } else {
+        say_high_words(page, number);
+    }
+}
+
 // A refusal's number and words, with no end of line.
 pub fn say_told(page: &mut Page, t: Told) {
     say_number(page, t.number as u64);
     say(page, b" ");
-    if t.number < 11 {
-        say_low_words(page, t.number);
-    } else {
-        say_high_words(page, t.number);
-    }
+    say_words(page, t.number);
 }
 
-// The line that a refusal begins with.
-pub fn say_refused(page: &mut Page, r: Refusal) -> Answer {
+// The lines that a refusal begins with: its number and words, and the argument that names the file, if one does.
+pub fn say_refused(page: &mut Page, at: usize, r: Refusal) -> Answer {
     say(page, b"refused: ");
     say_told(page, moves::tell(r));
     say(page, b"\n");
+    say_file(page, at);
     Answer::Refused
 }
 

@@ -1,5 +1,5 @@
 // Text, numbers and sets on the page.
-use crate::page::Page;
+pub use crate::page::Page;
 pub use crate::page::say;
 
 pub fn say_number(page: &mut Page, n: u64) {

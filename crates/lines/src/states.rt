@@ -28,7 +28,7 @@ pub fn say_ending(page: &mut Page, e: Ending, m: Marking) -> Answer {
             say_group(page, b"to do", sets::meet(m.due, m.included));
             Answer::No
         }
-        Ending::Refused(r) => say_refused(page, r),
+        Ending::Refused(r) => say_refused(page, 0, r),
     }
 }
 

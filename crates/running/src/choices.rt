@@ -1,7 +1,8 @@
 // Who may take which step now, and what keeps the others back.
-use crate::runs::say_stopped;
+use crate::runs::say_halted;
 use journal::Ran;
 use lines::page::Page;
+use lines::places::Places;
 use lines::say::say;
 use lines::say::say_count;
 use lines::say::say_number;
@@ -110,10 +111,10 @@ fn say_open(page: &mut Page, g: &Job, m: Marking, entries: u16) -> Answer {
     say_ending(page, rules::finished(g, m), m)
 }
 
-pub fn may(page: &mut Page, g: &Job, m: Marking, j: &[u8]) -> Answer {
+pub fn may(page: &mut Page, p: Places, g: &Job, m: Marking, j: &[u8]) -> Answer {
     let o = journal::run(g, m, j);
     match o {
         Ran::Ended(end, entries) => say_open(page, g, end, entries),
-        Ran::Stopped(k, r, before) => say_stopped(page, j, k, r, before),
+        Ran::Stopped(k, r, before) => say_halted(page, p, g, m, j, k, r, before),
     }
 }

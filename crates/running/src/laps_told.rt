@@ -1,8 +1,13 @@
 // A stem, then a lap without end.
 use crate::runs::say_entry_at;
+use crate::runs::say_entry_found;
+use crate::runs::say_unstarted;
+use journal::Ran;
+use journal::Walked;
 use laps::Lapped;
 use laps::Pass;
 use lines::page::Page;
+use lines::places::Places;
 use lines::refusals::say_refused;
 use lines::refusals::say_waited;
 use lines::say::say;
@@ -21,21 +26,106 @@ fn say_pass(page: &mut Page, p: Pass) {
     }
 }
 
-// The index counts in the stem or in the lap, by the pass.
-fn say_halt(page: &mut Page, stem: &[u8], lap: &[u8], k: u16, p: Pass, r: Refusal) -> Answer {
-    let refused = say_refused(page, r);
-    say_pass(page, p);
-    match p {
-        Pass::Stem => say_entry_at(page, stem, k),
-        Pass::First => say_entry_at(page, lap, k),
-        Pass::Second => say_entry_at(page, lap, k),
-        Pass::Later => say_entry_at(page, lap, k),
+fn is_journal(j: &[u8]) -> bool {
+    let w = journal::walk_at(j, 0).said;
+    if let Walked::Refused(_) = w {
+        return false;
     }
+    true
+}
+
+// The stem's length is looked at first: where it is right, 7 is the lap's.
+fn say_lengths(page: &mut Page, at: Places, stem: &[u8], lap: &[u8], r: Refusal) -> Answer {
+    if is_journal(stem) {
+        let refused = say_refused(page, at.lap, r);
+        finding::journals::say_found(page, lap);
+        return refused;
+    }
+    let refused = say_refused(page, at.journal, r);
+    finding::journals::say_found(page, stem);
+    refused
+}
+
+fn say_empty(page: &mut Page, at: usize, r: Refusal) -> Answer {
+    let refused = say_refused(page, at, r);
+    say(
+        page,
+        b"found: the lap has 0 entries\nexpected: at least 1\n",
+    );
+    refused
+}
+
+// Refused before any entry.
+fn say_unlapped(
+    page: &mut Page,
+    at: Places,
+    g: &Job,
+    m: Marking,
+    stem: &[u8],
+    lap: &[u8],
+    r: Refusal,
+) -> Answer {
+    let number = moves::tell(r).number;
+    match number {
+        7 => say_lengths(page, at, stem, lap, r),
+        8 => say_unstarted(page, at.marking, g, m, r),
+        17 => say_empty(page, at.lap, r),
+        _ => say_refused(page, at.sheet, r),
+    }
+}
+
+// Where the journal leads, as far as it goes.
+fn led(g: &Job, m: Marking, j: &[u8]) -> Marking {
+    let o = journal::run(g, m, j);
+    match o {
+        Ran::Ended(end, _) => end,
+        Ran::Stopped(_, _, before) => before,
+    }
+}
+
+// The index counts in the stem or in the lap; m is the marking before the entry.
+fn say_halt_at(
+    page: &mut Page,
+    at: usize,
+    g: &Job,
+    m: Marking,
+    j: &[u8],
+    k: u16,
+    p: Pass,
+    r: Refusal,
+) -> Answer {
+    let refused = say_refused(page, at, r);
+    say_entry_found(page, g, m, j, k, moves::tell(r).number);
+    say_pass(page, p);
+    say_entry_at(page, j, k);
     say_waited(page, r);
     refused
 }
 
-pub fn lap(page: &mut Page, g: &Job, m: Marking, stem: &[u8], again: &[u8]) -> Answer {
+// The stem, and after the first lap the lap, are run again as far as the entry, for the marking before it.
+fn say_halt(
+    page: &mut Page,
+    at: Places,
+    g: &Job,
+    m: Marking,
+    stem: &[u8],
+    lap: &[u8],
+    k: u16,
+    p: Pass,
+    r: Refusal,
+) -> Answer {
+    let once = led(g, m, stem);
+    if let Pass::Stem = p {
+        return say_halt_at(page, at.journal, g, once, stem, k, p, r);
+    }
+    let twice = led(g, once, lap);
+    if let Pass::First = p {
+        return say_halt_at(page, at.lap, g, twice, lap, k, p, r);
+    }
+    say_halt_at(page, at.lap, g, led(g, twice, lap), lap, k, p, r)
+}
+
+pub fn lap(page: &mut Page, at: Places, g: &Job, m: Marking, stem: &[u8], again: &[u8]) -> Answer {
     let o = laps::lap(g, m, stem, again);
     match o {
         Lapped::Accepted => {
@@ -47,7 +137,7 @@ pub fn lap(page: &mut Page, g: &Job, m: Marking, stem: &[u8], again: &[u8]) -> A
             say_count(page, b"starved step", step.0 as u64);
             Answer::No
         }
-        Lapped::Refused(r) => say_refused(page, r),
-        Lapped::Stopped(k, p, r) => say_halt(page, stem, again, k, p, r),
+        Lapped::Refused(r) => say_unlapped(page, at, g, m, stem, again, r),
+        Lapped::Stopped(k, p, r) => say_halt(page, at, g, m, stem, again, k, p, r),
     }
 }

@@ -1,6 +1,7 @@
-// Journals run from a marking: how they end, who may go on, laps without end, and the tracker.
+// Journals listed, and run from a marking: how they end, who may go on, laps without end, and the tracker.
 pub mod choices;
 pub mod laps_told;
+pub mod listing;
 pub mod markings;
 pub mod runs;
 pub mod tracks;

@@ -5,6 +5,8 @@ use files::writing::Target;
 use journal::Ran;
 use journal::Walked;
 use lines::page::Page;
+use lines::places::Places;
+use lines::places::place_of;
 use lines::refusals::say_refused;
 use lines::refusals::say_waited;
 use lines::say::say;
@@ -17,27 +19,59 @@ use moves::Marking;
 use moves::Refusal;
 use rules::Job;
 
-// Entry k of the journal, as a line.
-pub fn say_entry_at(page: &mut Page, j: &[u8], k: u16) {
+// Entry k of the journal, with no end of line.
+pub fn say_entry_of(page: &mut Page, j: &[u8], k: u16) {
     let w = journal::walk_at(j, k as usize).said;
     if let Walked::At(e) = w {
         say_entry(page, k as u64, e);
-        say(page, b"\n");
     }
 }
 
+// What entry k meets at marking m of what the number speaks of.
+pub fn say_entry_found(page: &mut Page, g: &Job, m: Marking, j: &[u8], k: u16, number: u8) {
+    let w = journal::walk_at(j, k as usize).said;
+    if let Walked::At(e) = w {
+        finding::entries::say_found(page, g, m, e, number);
+    }
+}
+
+// The same as a line.
+pub fn say_entry_at(page: &mut Page, j: &[u8], k: u16) {
+    say_entry_of(page, j, k);
+    say(page, b"\n");
+}
+
 // A refused run: from 11 on with the entry and the marking before it; 16 is no entry's, and has the marking alone.
-pub fn say_stopped(page: &mut Page, j: &[u8], k: u16, r: Refusal, m: Marking) -> Answer {
-    let refused = say_refused(page, r);
+pub fn say_stopped(
+    page: &mut Page,
+    p: Places,
+    g: &Job,
+    j: &[u8],
+    k: u16,
+    r: Refusal,
+    m: Marking,
+) -> Answer {
+    let refused = say_refused(page, place_of(p, r), r);
     let number = moves::tell(r).number;
+    if number == 7 {
+        finding::journals::say_found(page, j);
+    }
     if number < 11 {
         return refused;
     }
     if number < 16 {
+        say_entry_found(page, g, m, j, k, number);
         say_entry_at(page, j, k);
         say_waited(page, r);
     }
     say_marking(page, m);
+    refused
+}
+
+// A run that cannot start: 8 is the marking's, and there is no entry yet.
+pub fn say_unstarted(page: &mut Page, at: usize, g: &Job, m: Marking, r: Refusal) -> Answer {
+    let refused = say_refused(page, at, r);
+    finding::markings::say_found(page, g[0], m);
     refused
 }
 
@@ -52,13 +86,43 @@ fn say_ended(page: &mut Page, g: &Job, m: Marking, entries: u16, t: Target) -> A
     ending
 }
 
-pub fn say_ran(page: &mut Page, g: &Job, o: Ran, j: &[u8], t: Target) -> Answer {
+pub fn say_ran(page: &mut Page, p: Places, g: &Job, o: Ran, j: &[u8], t: Target) -> Answer {
     match o {
         Ran::Ended(m, entries) => say_ended(page, g, m, entries, t),
-        Ran::Stopped(k, r, m) => say_stopped(page, j, k, r, m),
+        Ran::Stopped(k, r, m) => say_stopped(page, p, g, j, k, r, m),
     }
 }
 
-pub fn run(page: &mut Page, g: &Job, m: Marking, j: &[u8], t: Target) -> Answer {
-    say_ran(page, g, journal::run(g, m, j), j, t)
+// A run from marking m that has not ended.
+pub fn say_halted(
+    page: &mut Page,
+    p: Places,
+    g: &Job,
+    m: Marking,
+    j: &[u8],
+    k: u16,
+    r: Refusal,
+    before: Marking,
+) -> Answer {
+    if moves::tell(r).number == 8 {
+        return say_unstarted(page, p.marking, g, m, r);
+    }
+    say_stopped(page, p, g, j, k, r, before)
+}
+
+pub fn run(page: &mut Page, p: Places, g: &Job, m: Marking, j: &[u8], t: Target) -> Answer {
+    let o = journal::run(g, m, j);
+    match o {
+        Ran::Ended(end, entries) => say_ended(page, g, end, entries, t),
+        Ran::Stopped(k, r, before) => say_halted(page, p, g, m, j, k, r, before),
+    }
+}
+
+// Is the job finished after the journal?
+pub fn finished(page: &mut Page, p: Places, g: &Job, m: Marking, j: &[u8]) -> Answer {
+    let o = journal::run(g, m, j);
+    match o {
+        Ran::Ended(end, _) => say_ending(page, rules::finished(g, end), end),
+        Ran::Stopped(k, r, before) => say_halted(page, p, g, m, j, k, r, before),
+    }
 }

@@ -1,6 +1,9 @@
 // The tracker, entry by entry.
+use crate::runs::say_unstarted;
 use journal::Walked;
 use lines::page::Page;
+use lines::places::Places;
+use lines::places::place_of;
 use lines::refusals::say_refused;
 use lines::refusals::say_waited;
 use lines::say::say;
@@ -32,8 +35,9 @@ fn say_place(page: &mut Page, t: Track) {
     say(page, b"\n");
 }
 
-fn say_stays(page: &mut Page, k: usize, e: Entry, r: Refusal, t: Track) {
-    say_refused(page, r);
+fn say_stays(page: &mut Page, p: Places, g: &Job, k: usize, e: Entry, r: Refusal, t: Track) {
+    say_refused(page, place_of(p, r), r);
+    finding::entries::say_found(page, g, t.marking, e, moves::tell(r).number);
     say_entry(page, k as u64, e);
     say(page, b"\n");
     say_waited(page, r);
@@ -60,7 +64,7 @@ fn halts(t: Track, refused: bool) -> Going {
 }
 
 // Entry k, from a state.
-fn advanced(page: &mut Page, g: &Job, t: Track, k: usize, e: Entry) -> Going {
+fn advanced(page: &mut Page, p: Places, g: &Job, t: Track, k: usize, e: Entry) -> Going {
     let o = tracker::advance(g, t, e);
     match o {
         Tracked::At(next) => {
@@ -70,32 +74,32 @@ fn advanced(page: &mut Page, g: &Job, t: Track, k: usize, e: Entry) -> Going {
             goes(next)
         }
         Tracked::Stays(r, before) => {
-            say_stays(page, k, e, r, before);
+            say_stays(page, p, g, k, e, r, before);
             halts(before, true)
         }
         Tracked::Refused(r) => {
-            say_refused(page, r);
+            say_refused(page, place_of(p, r), r);
             halts(t, true)
         }
     }
 }
 
 // The entry that the journal has at k, if it has one.
-fn onward(page: &mut Page, g: &Job, t: Track, j: &[u8], k: usize) -> Going {
+fn onward(page: &mut Page, p: Places, g: &Job, t: Track, j: &[u8], k: usize) -> Going {
     let w = journal::walk_at(j, k).said;
     match w {
-        Walked::At(e) => advanced(page, g, t, k, e),
+        Walked::At(e) => advanced(page, p, g, t, k, e),
         Walked::End => halts(t, false),
         Walked::Refused(_) => halts(t, true),
     }
 }
 
 // A journal has at most 21,845 entries.
-fn follow(page: &mut Page, g: &Job, start: Track, j: &[u8]) -> Going {
+fn follow(page: &mut Page, p: Places, g: &Job, start: Track, j: &[u8]) -> Going {
     let mut at = goes(start);
     let mut k = 0;
     while k < 21846 {
-        at = onward(page, g, at.track, j, k);
+        at = onward(page, p, g, at.track, j, k);
         if !at.on {
             return at;
         }
@@ -104,10 +108,10 @@ fn follow(page: &mut Page, g: &Job, start: Track, j: &[u8]) -> Going {
     at
 }
 
-fn say_tracked(page: &mut Page, g: &Job, t: Track, j: &[u8]) -> Answer {
+fn say_tracked(page: &mut Page, p: Places, g: &Job, t: Track, j: &[u8]) -> Answer {
     say(page, b"start: ");
     say_place(page, t);
-    let end = follow(page, g, t, j);
+    let end = follow(page, p, g, t, j);
     say_marking(page, end.track.marking);
     if end.refused {
         return Answer::Refused;
@@ -115,15 +119,17 @@ fn say_tracked(page: &mut Page, g: &Job, t: Track, j: &[u8]) -> Answer {
     Answer::Answered
 }
 
-pub fn track(page: &mut Page, g: &Job, m: Marking, j: &[u8]) -> Answer {
+pub fn track(page: &mut Page, p: Places, g: &Job, m: Marking, j: &[u8]) -> Answer {
     let w = journal::walk_at(j, 0).said;
     if let Walked::Refused(r) = w {
-        return say_refused(page, r);
+        let refused = say_refused(page, p.journal, r);
+        finding::journals::say_found(page, j);
+        return refused;
     }
     let o = tracker::start(g, m);
     match o {
-        Tracked::At(start) => say_tracked(page, g, start, j),
-        Tracked::Stays(r, _) => say_refused(page, r),
-        Tracked::Refused(r) => say_refused(page, r),
+        Tracked::At(start) => say_tracked(page, p, g, start, j),
+        Tracked::Stays(r, _) => say_unstarted(page, place_of(p, r), g, m, r),
+        Tracked::Refused(r) => say_unstarted(page, place_of(p, r), g, m, r),
     }
 }

@@ -33,8 +33,8 @@ pub fn show(page: &mut Page, g: &Job, m: Marking) -> Answer {
     say_ending(page, rules::finished(g, m), m)
 }
 
-// The sheet of what was read.
-pub fn write(page: &mut Page, g: &Job, m: Marking, t: Target) -> Answer {
+// The sheet of what was read; `at` names it.
+pub fn write(page: &mut Page, g: &Job, m: Marking, t: Target, at: usize) -> Answer {
     let mut room = io::large_buffer();
     let w = sheet::write(g, m, &mut room);
     match w {
@@ -45,6 +45,6 @@ pub fn write(page: &mut Page, g: &Job, m: Marking, t: Target) -> Answer {
             say_wrote(page, n as u64);
             Answer::Answered
         }
-        Written::Refused(r) => say_refused(page, r),
+        Written::Refused(r) => say_refused(page, at, r),
     }
 }

@@ -52,7 +52,7 @@ fn store_sheet(page: &mut Page, g: &Job, folder: &[u8], force: bool) -> bool {
     match o {
         Written::Length(n) => store_part(page, folder, b"job.sheet", force, front(&room, n)),
         Written::Refused(r) => {
-            say_refused(page, r);
+            say_refused(page, 0, r);
             false
         }
     }

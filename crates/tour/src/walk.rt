@@ -86,7 +86,7 @@ fn start_again(page: &mut Page, g: &Job, r: Record) -> Answer {
     let o = folding::restore(g, r, b"", START);
     match o {
         Ran::Ended(m, _) => go_on(page, g, m),
-        Ran::Stopped(_, refusal, _) => say_refused(page, refusal),
+        Ran::Stopped(_, refusal, _) => say_refused(page, 0, refusal),
     }
 }
 
@@ -109,7 +109,7 @@ fn say_walk(page: &mut Page, g: &Job) -> Answer {
     let o = folding::fold(g, &REBOOT);
     match o {
         Recorded::Made(r) => start_again(page, g, r),
-        Recorded::Refused(r) => say_refused(page, r),
+        Recorded::Refused(r) => say_refused(page, 0, r),
     }
 }
 

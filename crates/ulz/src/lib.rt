@@ -3,7 +3,6 @@ use answers::Task;
 use answers::give;
 use files::arguments::Call;
 use files::arguments::Number;
-use files::complaints::complain;
 use files::complaints::complain_of;
 use files::reading::fetch;
 use files::writing::Target;
@@ -13,10 +12,12 @@ use guide::commands::named;
 use guide::commands::shape_of;
 use lines::page::Page;
 use lines::status::Answer;
-use wrong::complain_long;
+use wrong::complain_none;
 use wrong::complain_unknown;
 use wrong::is_wrong;
+use wrong::is_wrong_word;
 use wrong::place;
+use wrong::writes_over;
 
 mod answers;
 mod wrong;
@@ -37,10 +38,16 @@ fn read_and_give(page: &mut Page, t: Task) -> Answer {
     if c.failed {
         return Answer::Failed;
     }
+    let mut start = io::buffer();
+    let d = fetch(t.from, &mut start);
+    if d.failed {
+        return Answer::Failed;
+    }
     let x = a.length;
     let y = b.length;
     let z = c.length;
-    give(page, t, &first[..x], &second[..y], &third[..z])
+    let w = d.length;
+    give(page, t, &first[..x], &second[..y], &third[..z], &start[..w])
 }
 
 // The place of operand k, if it is an input.
@@ -58,6 +65,8 @@ fn task_of(command: Command, s: Shape, call: Call) -> Task {
         first: input(s, call, 0),
         second: input(s, call, 1),
         third: input(s, call, 2),
+        from: call.from,
+        never: call.never,
         target: Target {
             at: place(call, s.out),
             force: call.force,
@@ -66,7 +75,7 @@ fn task_of(command: Command, s: Shape, call: Call) -> Task {
 }
 
 // The inputs stand behind N.
-fn numbered(t: Task, number: u8) -> Task {
+fn numbered(t: Task, number: u64) -> Task {
     let o = t.target;
     let command = t.command;
     Task {
@@ -75,6 +84,8 @@ fn numbered(t: Task, number: u8) -> Task {
         first: t.second,
         second: t.third,
         third: 0,
+        from: t.from,
+        never: t.never,
         target: o,
     }
 }
@@ -90,6 +101,13 @@ fn number_in(call: Call) -> Number {
     o
 }
 
+fn obey_task(page: &mut Page, t: Task) -> Answer {
+    if writes_over(t) {
+        return Answer::Failed;
+    }
+    read_and_give(page, t)
+}
+
 fn obey(page: &mut Page, c: Command, call: Call) -> Answer {
     let s = shape_of(c);
     if is_wrong(c, s, call) {
@@ -97,39 +115,66 @@ fn obey(page: &mut Page, c: Command, call: Call) -> Answer {
     }
     let t = task_of(c, s, call);
     if !s.numbered {
-        return read_and_give(page, t);
+        return obey_task(page, t);
     }
     let n = number_in(call);
     match n {
-        Number::Is(number) => read_and_give(page, numbered(t, number)),
+        Number::Is(number) => obey_task(page, numbered(t, number)),
         Number::None => Answer::Failed,
     }
 }
 
-fn answer(page: &mut Page) -> Answer {
-    if os::arg_count() < 2 {
-        complain(b"ulz: no command; 'ulz help' lists them\n");
-        return Answer::Failed;
+// The command's own page, where help is asked for behind it.
+fn obey_or_help(page: &mut Page, c: Command, call: Call) -> Answer {
+    if call.help {
+        guide::help::say_help_of(page, c);
+        return Answer::Answered;
     }
+    obey(page, c, call)
+}
+
+fn answer_without(page: &mut Page, call: Call) -> Answer {
+    if call.help {
+        guide::help::say_help(page);
+        return Answer::Answered;
+    }
+    complain_none();
+    Answer::Failed
+}
+
+// The command is the first operand.
+fn answer_command(page: &mut Page, call: Call) -> Answer {
+    if call.count == 0 {
+        return answer_without(page, call);
+    }
+    let at = call.at;
     let mut word = io::buffer();
-    let n = os::arg(1, &mut word);
-    if !files::arguments::is_whole(n) {
-        complain_long();
-        return Answer::Failed;
-    }
+    let n = os::arg(at[0], &mut word);
     let c = named(&word[..n]);
     if let Command::Unknown = c {
         complain_unknown(&word[..n]);
         return Answer::Failed;
     }
-    obey(page, c, files::arguments::called())
+    obey_or_help(page, c, call)
+}
+
+fn answer(page: &mut Page, call: Call) -> Answer {
+    if is_wrong_word(call) {
+        return Answer::Failed;
+    }
+    if call.version {
+        guide::help::say_version(page);
+        return Answer::Answered;
+    }
+    answer_command(page, call)
 }
 
 // What `main` calls and returns. The status is told last, when it is known whether all lines were written.
 #[no_mangle]
 pub extern "C" fn ulz_program() -> i32 {
     let mut page = lines::page::blank();
-    let a = answer(&mut page);
+    let call = files::arguments::called();
+    let a = answer(&mut page, call);
     let whole = lines::page::flush(&mut page);
-    lines::status::status(false, a, whole) as i32
+    lines::status::status(call.status, a, whole) as i32
 }

@@ -1,25 +1,37 @@
 // Wrong use, each with its one line.
+use crate::answers::Task;
 use check::same;
 use files::arguments::Call;
 use files::complaints::complain;
-use files::complaints::complain_name;
 use files::complaints::complain_of;
+use files::writing::same_file;
 use guide::commands::Command;
 use guide::commands::Shape;
+use guide::nearest::nearest;
+use guide::usage::say_command_word;
 use guide::usage::say_use;
+use lines::names::say_name;
 use lines::page::complain_with;
 use lines::say::say;
 
-// The place of operand k, or 0.
+// The place of operand k behind the command, or 0.
 pub fn place(c: Call, k: usize) -> usize {
-    if c.count <= k {
-        return 0;
-    }
     if 3 < k {
         return 0;
     }
+    if c.count <= k + 1 {
+        return 0;
+    }
     let at = c.at;
-    at[k]
+    at[k + 1]
+}
+
+// How many stand behind the command.
+fn operands(c: Call) -> usize {
+    if c.count == 0 {
+        return 0;
+    }
+    c.count - 1
 }
 
 fn is_dash(i: usize) -> bool {
@@ -31,12 +43,19 @@ fn is_dash(i: usize) -> bool {
     same(&name[..n], b"-")
 }
 
-pub fn complain_long() {
-    complain(b"ulz: an argument is longer than 4,095 bytes\n");
+pub fn complain_none() {
+    complain(b"ulz: no command; 'ulz help' lists them\n");
 }
 
+// A page is put together first, so that the complaint is one write.
 pub fn complain_unknown(word: &[u8]) {
-    complain_of(word, b"unknown command; 'ulz help' lists them");
+    let mut page = lines::page::blank();
+    say(&mut page, b"ulz: ");
+    say_name(&mut page, word);
+    say(&mut page, b": unknown command; did you mean '");
+    say_command_word(&mut page, nearest(word));
+    say(&mut page, b"'? 'ulz help' lists them\n");
+    complain_with(&mut page);
 }
 
 // What is wrong with the file that argument i names.
@@ -49,9 +68,7 @@ pub fn complain_at(i: usize, what: &[u8]) {
 fn complain_option(i: usize) {
     let mut word = io::buffer();
     let n = os::arg(i, &mut word);
-    complain(b"ulz: unknown option ");
-    complain_name(&word[..n]);
-    complain(b"\n");
+    complain_of(&word[..n], b"unknown option");
 }
 
 fn complain_use(c: Command) {
@@ -62,7 +79,46 @@ fn complain_use(c: Command) {
     complain_with(&mut page);
 }
 
-// Is no file written, though --force says that it may be written over?
+// The option is known, but is none of this command's.
+fn complain_untaken(c: Command, option: &[u8]) {
+    let mut page = lines::page::blank();
+    say(&mut page, b"ulz: ");
+    say(&mut page, option);
+    say(&mut page, b": 'ulz ");
+    say_command_word(&mut page, c);
+    say(&mut page, b"' takes no such option\n");
+    complain_with(&mut page);
+}
+
+// Does the command write a file? Help has a command in that place.
+fn writes(c: Command, s: Shape) -> bool {
+    if let Command::Help = c {
+        return false;
+    }
+    s.out < s.most
+}
+
+fn has_untaken(c: Command, s: Shape, call: Call) -> bool {
+    if call.force & !writes(c, s) {
+        complain_untaken(c, b"--force");
+        return true;
+    }
+    if call.never & !s.never {
+        complain_untaken(c, b"--never");
+        return true;
+    }
+    if call.status & !s.status {
+        complain_untaken(c, b"--status");
+        return true;
+    }
+    if (call.from != 0) & !s.from {
+        complain_untaken(c, b"--from");
+        return true;
+    }
+    false
+}
+
+// Is no file written, though --force says that it may be written over? A sample has files without naming a folder.
 fn forces_nothing(c: Command, s: Shape, call: Call) -> bool {
     if !call.force {
         return false;
@@ -70,19 +126,21 @@ fn forces_nothing(c: Command, s: Shape, call: Call) -> bool {
     if let Command::Sample = c {
         return false;
     }
-    if let Command::Help = c {
-        return true;
-    }
-    call.count <= s.out
+    operands(call) <= s.out
 }
 
-fn is_wrong_word(call: Call) -> bool {
+// Is a word of the call wrong whatever the command? Then it was complained of.
+pub fn is_wrong_word(call: Call) -> bool {
     if 0 < call.long {
-        complain_long();
+        complain(b"ulz: an argument is longer than 4,095 bytes\n");
         return true;
     }
     if 0 < call.option {
         complain_option(call.option);
+        return true;
+    }
+    if 0 < call.lacking {
+        complain(b"ulz: --from: a marking is missing\n");
         return true;
     }
     if call.dashes {
@@ -94,14 +152,14 @@ fn is_wrong_word(call: Call) -> bool {
 
 // Is the call no use of the command? Then it was complained of.
 pub fn is_wrong(c: Command, s: Shape, call: Call) -> bool {
-    if is_wrong_word(call) {
+    if has_untaken(c, s, call) {
         return true;
     }
-    if call.count < s.least {
+    if operands(call) < s.least {
         complain_use(c);
         return true;
     }
-    if s.most < call.count {
+    if s.most < operands(call) {
         complain_use(c);
         return true;
     }
@@ -114,4 +172,30 @@ pub fn is_wrong(c: Command, s: Shape, call: Call) -> bool {
         return true;
     }
     false
+}
+
+fn is_input(t: Task) -> bool {
+    let out = t.target.at;
+    if same_file(out, t.first) {
+        return true;
+    }
+    if same_file(out, t.second) {
+        return true;
+    }
+    if same_file(out, t.third) {
+        return true;
+    }
+    same_file(out, t.from)
+}
+
+// Would the call write over a file that it reads? Then it was complained of.
+pub fn writes_over(t: Task) -> bool {
+    if !is_input(t) {
+        return false;
+    }
+    complain_at(
+        t.target.at,
+        b"is read by this call, and is not written over",
+    );
+    true
 }

@@ -5,10 +5,10 @@ use Rattle.running.proofs.tracks.follow.Statement.{statement}
 use Rattle.running.proofs.tracks.follow.Tie as tie
 
 abbrev Inv-loop : tie.InvT-loop
-Inv-loop page₀ g j at₀ k₀ page at k = k ≤ 21846
+Inv-loop page₀ p g j at₀ k₀ page at k = k ≤ 21846
 
 abbrev μ-loop : tie.MeasureT-loop
-μ-loop page₀ g j at₀ k₀ page at k = 21846 - k
+μ-loop page₀ p g j at₀ k₀ page at k = 21846 - k
 
 goes-requires : tie.Need-goes-requires Inv-loop μ-loop
 goes-requires c κs = search needs
