@@ -1,5 +1,5 @@
 // The commands, and what each takes.
-use check::same;
+use crate::nearest::searched;
 
 pub enum Command {
     Check,
@@ -34,63 +34,13 @@ pub struct Shape {
     pub never: bool,
 }
 
-fn named_later(word: &[u8]) -> Command {
-    if same(word, b"restore") {
-        return Command::Restore;
-    }
-    if same(word, b"record") {
-        return Command::Record;
-    }
-    if same(word, b"marking") {
-        return Command::Marking;
-    }
-    if same(word, b"entries") {
-        return Command::Entries;
-    }
-    if same(word, b"lap") {
-        return Command::Lap;
-    }
-    if same(word, b"track") {
-        return Command::Track;
-    }
-    if same(word, b"sample") {
-        return Command::Sample;
-    }
-    if same(word, b"help") {
-        return Command::Help;
+// The command of that name. No name is longer than what is looked at of a word, so that one at no distance is the name.
+pub fn named(word: &[u8]) -> Command {
+    let n = searched(word);
+    if n.steps == 0 {
+        return n.command;
     }
     Command::Unknown
-}
-
-pub fn named(word: &[u8]) -> Command {
-    if same(word, b"check") {
-        return Command::Check;
-    }
-    if same(word, b"show") {
-        return Command::Show;
-    }
-    if same(word, b"write") {
-        return Command::Write;
-    }
-    if same(word, b"may") {
-        return Command::May;
-    }
-    if same(word, b"run") {
-        return Command::Run;
-    }
-    if same(word, b"finished") {
-        return Command::Finished;
-    }
-    if same(word, b"fold") {
-        return Command::Fold;
-    }
-    if same(word, b"join") {
-        return Command::Join;
-    }
-    if same(word, b"apply") {
-        return Command::Apply;
-    }
-    named_later(word)
 }
 
 fn shaped(numbered: bool, out: usize, least: usize, most: usize) -> Shape {
