@@ -10,23 +10,23 @@ use Rattle.moves.specs.Move.{markingFits}
 use Rattle.records.specs.declared.Record.{Record}
 use Rattle.records.specs.Records.{applies}
 use Rattle.finding.specs.declared.parts.Held.{Held}
-use Rattle.finding.specs.Found.{held, firstOf, beyond, strayOf, lackOf}
+use Rattle.finding.specs.Found.{heldIn, earliestOf, membersBeyond, strayOf, lackOf}
 
 first-cases : (p q : Bool) (a b c : ℕ) → empty a ≡ p → empty b ≡ q
-    → empty (cond {A = Held} p (cond {A = Held} q (held 2 c) (held 1 b)) (held 0 a) .steps) ≡ (p && q && empty c)
+    → empty (cond {A = Held} p (cond {A = Held} q (heldIn 2 c) (heldIn 1 b)) (heldIn 0 a) .steps) ≡ (p && q && empty c)
 first-cases true true a b c e f = refl
 first-cases true false a b c e f = f
 first-cases false q a b c e f = e
 
 -- the first of three sets has no member exactly if none of them has
-pub first-empty : (a b c : ℕ) → empty (firstOf a b c .steps) ≡ (empty a && empty b && empty c)
-unfolding firstOf
+pub first-empty : (a b c : ℕ) → empty (earliestOf a b c .steps) ≡ (empty a && empty b && empty c)
+unfolding earliestOf
 first-empty a b c = first-cases (empty a) (empty b) a b c refl refl
 
 -- 8, and 4 of a sheet's marking: something is beyond exactly if the marking does not fit
 pub stray-fits : (n : ℕ) (m : Marking) → empty (strayOf n m .steps) ≡ markingFits n m
 stray-fits n m =
-    first-empty (beyond n (m .done)) (beyond n (m .due)) (beyond n (m .included))
+    first-empty (membersBeyond n (m .done)) (membersBeyond n (m .due)) (membersBeyond n (m .included))
     ∙ ap₂ (λ (x y : Bool). x && y)
     (ap₂ (λ (x y : Bool). x && y) (subset-full n (m .done)) (subset-full n (m .due)))
     (subset-full n (m .included))

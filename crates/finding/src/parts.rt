@@ -2,7 +2,7 @@
 ghost use mathlib.Core.Path.{_≡_};
 ghost use Prim.Native.Nat.{_<_, _≤_};
 ghost use Rattle.sets.specs.Sets.{minus};
-ghost use Rattle.finding.specs.Found.{beyond, firstOf};
+ghost use Rattle.finding.specs.Found.{earliestOf, membersBeyond};
 
 // One of several sets, counted from 0, and steps of it; none where there is nothing to say.
 pub struct Held {
@@ -54,14 +54,14 @@ pub fn lacking(x: u64, other: u64) -> u64
 // The members of x that are not below n.
 pub fn beyond(n: u64, x: u64) -> u64
     requires { ⌜ n ≤ 64 ⌝ }
-    ensures { λ r. ⌜ r ≡ beyond n x ⌝ }
+    ensures { λ r. ⌜ r ≡ membersBeyond n x ⌝ }
 {
     lacking(x, sets::full(n))
 }
 
 // The first of three sets that has a member; the last where none has.
 pub fn first_of(a: u64, b: u64, c: u64) -> Held
-    ensures { λ r. ⌜ r ≡ firstOf a b c ⌝ }
+    ensures { λ r. ⌜ r ≡ earliestOf a b c ⌝ }
 {
     if a != 0 {
         return Held { set: 0, steps: a };

@@ -5,11 +5,11 @@ use Rattle.lines.specs.declared.status.Answer.{Answer}
 use Rattle.lines.specs.declared.status.Answer.the-variants.{Answered, No, Refused, Failed}
 
 -- 0 answered, 1 refused by a number, 2 anything else: wrong use, a file that cannot be read or written
-unfoldable pub toldOf : Answer → ℕ
-toldOf Answered = 0
-toldOf No = 0
-toldOf Refused = 1
-toldOf Failed = 2
+unfoldable pub plainOf : Answer → ℕ
+plainOf Answered = 0
+plainOf No = 0
+plainOf Refused = 1
+plainOf Failed = 2
 
 -- asked for as yes or no: 0 yes, 1 no, 2 anything else, a refusal too
 unfoldable pub askedOf : Answer → ℕ
@@ -19,7 +19,7 @@ askedOf Refused = 2
 askedOf Failed = 2
 
 abbrev pub saidOf : Bool → Answer → ℕ
-saidOf asked a = cond asked (askedOf a) (toldOf a)
+saidOf asked a = cond asked (askedOf a) (plainOf a)
 
 -- an output that was not written whole is 2, whatever was answered
 abbrev pub statusOf : Bool → Answer → Bool → ℕ

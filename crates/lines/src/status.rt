@@ -1,6 +1,6 @@
 // The program's exit status.
 ghost use mathlib.Core.Path.{_≡_};
-ghost use Rattle.lines.specs.Status.{toldOf, askedOf, saidOf, statusOf};
+ghost use Rattle.lines.specs.Status.{plainOf, askedOf, saidOf, statusOf};
 
 // What a command came to. A question that can be asked by status has the answers yes, which is Answered, and No.
 pub enum Answer {
@@ -14,7 +14,7 @@ pub enum Answer {
 const TORN: u8 = 2;
 
 fn told(a: Answer) -> u8
-    ensures { λ r. ⌜ r ≡ toldOf a ⌝ }
+    ensures { λ r. ⌜ r ≡ plainOf a ⌝ }
 {
     match a {
         Answer::Answered => 0,

@@ -1,19 +1,19 @@
 -- `parts::first_of`: the cases of the definition. Assumes nothing.
 use borrow.Author.Tests.{eq-eqb, ne-eqb}
-use Rattle.finding.specs.Found.{firstOf}
+use Rattle.finding.specs.Found.{earliestOf}
 use Rattle.finding.proofs.parts.first_of.Statement.{statement}
 use Rattle.finding.proofs.parts.first_of.Tie as tie
 
 returns : tie.Need-returns
-unfolding firstOf
+unfolding earliestOf
 returns c = simp (ne-eqb _ _ (c .if1 .taken))
 
 returns-2 : tie.Need-returns-2
-unfolding firstOf
+unfolding earliestOf
 returns-2 c = simp (eq-eqb _ _ (c .before .if1 .left), ne-eqb _ _ (c .if2 .taken))
 
 returns-3 : tie.Need-returns-3
-unfolding firstOf
+unfolding earliestOf
 returns-3 c = simp (eq-eqb _ _ (c .before .if1 .left), eq-eqb _ _ (c .if2 .left))
 
 pub first-of-spec : {M : Type 1} → statement M

@@ -1,7 +1,7 @@
 -- `status::told`: each arm is the definition at its constructor. Assumes nothing.
 use mathlib.Core.Path.{sym, ap}
 use borrow.Author.Needs.{needs}
-use Rattle.lines.specs.Status.{toldOf}
+use Rattle.lines.specs.Status.{plainOf}
 use Rattle.lines.proofs.status.told.Statement.{statement}
 use Rattle.lines.proofs.status.told.Tie as tie
 
@@ -18,20 +18,20 @@ enum-told-4 : tie.Need-enum-told-4
 enum-told-4 c = search needs
 
 returns : tie.Need-returns
-unfolding toldOf
-returns c = sym (ap toldOf (c .enum-told .given .1))
+unfolding plainOf
+returns c = sym (ap plainOf (c .enum-told .given .1))
 
 returns-2 : tie.Need-returns-2
-unfolding toldOf
-returns-2 c = sym (ap toldOf (c .enum-told2 .given .1))
+unfolding plainOf
+returns-2 c = sym (ap plainOf (c .enum-told2 .given .1))
 
 returns-3 : tie.Need-returns-3
-unfolding toldOf
-returns-3 c = sym (ap toldOf (c .enum-told3 .given .1))
+unfolding plainOf
+returns-3 c = sym (ap plainOf (c .enum-told3 .given .1))
 
 returns-4 : tie.Need-returns-4
-unfolding toldOf
-returns-4 c = sym (ap toldOf (c .enum-told4 .given .1))
+unfolding plainOf
+returns-4 c = sym (ap plainOf (c .enum-told4 .given .1))
 
 pub told-spec : {M : Type 1} → statement M
 told-spec =
