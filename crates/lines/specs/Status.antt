@@ -1,6 +1,9 @@
 -- What the program's exit status says.
 use Prim.Native.Nat.{ℕ}
 use mathlib.Core.Bool.{Bool, cond}
+use mathlib.Core.List.{List}
+use lib.ListN.{getD}
+use lib.Dec.{eqb}
 use Rattle.lines.specs.declared.status.Answer.{Answer}
 use Rattle.lines.specs.declared.status.Answer.the-variants.{Answered, No, Refused, Failed}
 
@@ -24,3 +27,7 @@ saidOf asked a = cond asked (askedOf a) (plainOf a)
 -- an output that was not written whole is 2, whatever was answered
 abbrev pub statusOf : Bool → Answer → Bool → ℕ
 statusOf asked a whole = cond whole (saidOf asked a) 2
+
+-- the page's mark of a write that failed is down
+abbrev pub isWhole : List ℕ → Bool
+isWhole page = eqb (getD page 8194 0) 0

@@ -1,6 +1,8 @@
 // The page: what is printed and not yet written out. It is lent to whatever prints, so that a command makes few writes, and it
 // keeps whether one of them failed, so that nobody can overlook it.
 ghost use Prim.Native.Nat.{_≤_, _<_};
+ghost use mathlib.Core.Path.{_≡_};
+ghost use Rattle.lines.specs.Status.{isWhole};
 use libc::STDERR_FILENO;
 use libc::STDOUT_FILENO;
 
@@ -87,7 +89,9 @@ pub fn say(page: &mut Page, text: &[u8]) {
 }
 
 // Writes out what is left. Was everything written, now and before?
-pub fn flush(page: &mut Page) -> bool {
+pub fn flush(page: &mut Page) -> bool
+    ensures { λ r. ⌜ r ≡ isWhole (now (page .exit)) ⌝ }
+{
     write_out(page);
     page[TORN] == 0
 }

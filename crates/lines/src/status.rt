@@ -1,6 +1,8 @@
 // The program's exit status.
 ghost use mathlib.Core.Path.{_≡_};
-ghost use Rattle.lines.specs.Status.{plainOf, askedOf, saidOf, statusOf};
+ghost use Rattle.lines.specs.Status.{plainOf, askedOf, saidOf, statusOf, isWhole};
+use crate::page::Page;
+use crate::page::flush;
 
 // What a command came to. A question that can be asked by status has the answers yes, which is Answered, and No.
 pub enum Answer {
@@ -53,4 +55,12 @@ pub fn status(asked: bool, a: Answer, whole: bool) -> u8
         return s;
     }
     TORN
+}
+
+// The status told last: what is left of the page is written out, and the page says whether everything was.
+pub fn ended(page: &mut Page, asked: bool, a: Answer) -> u8
+    ensures { λ r. ⌜ r ≡ statusOf asked a (isWhole (now (page .exit))) ⌝ }
+{
+    let whole = flush(page);
+    status(asked, a, whole)
 }

@@ -1,4 +1,5 @@
 // The program: reads the files that its arguments name, asks the floors below, prints their answers, and answers its exit status.
+ghost use Rattle.ulz.specs.Ends.{Ends};
 use answers::Task;
 use answers::give;
 use files::arguments::Call;
@@ -171,10 +172,11 @@ fn answer(page: &mut Page, call: Call) -> Answer {
 
 // What `main` calls and returns. The status is told last, when it is known whether all lines were written.
 #[no_mangle]
-pub extern "C" fn ulz_program() -> i32 {
+pub extern "C" fn ulz_program() -> i32
+    ensures { λ r. ⌜ Ends r ⌝ }
+{
     let mut page = lines::page::blank();
     let call = files::arguments::called();
     let a = answer(&mut page, call);
-    let whole = lines::page::flush(&mut page);
-    lines::status::status(call.status, a, whole) as i32
+    lines::status::ended(&mut page, call.status, a) as i32
 }
