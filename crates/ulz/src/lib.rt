@@ -178,5 +178,10 @@ pub extern "C" fn ulz_program() -> i32
     let mut page = lines::page::blank();
     let call = files::arguments::called();
     let a = answer(&mut page, call);
-    lines::status::ended(&mut page, call.status, a) as i32
+    let s = lines::status::ended(&mut page, call.status, a);
+    match s {
+        0 => 0,
+        1 => 1,
+        _ => 2,
+    }
 }

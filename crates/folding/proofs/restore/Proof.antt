@@ -112,8 +112,8 @@ returns-5 c =
     let g = graph (asked3 fit) in
     let a = start (asked3 fit) .args in
     let not-suited : applies (a .r) (a .m) ≡ false = sym (c .before .suits .ensures) ∙ not-true _ (c .if4 .taken) in
-    sym (restore-on g (a .r) (a .j .now) (a .m) false (clear (asked3 fit)) (long (fit .before .before .before .before)) (within (fit .before .before)) (good fit)
-    not-suited)
+    sym (restore-on g (a .r) (a .j .now) (a .m) false (clear (asked3 fit)) (long (fit .before .before .before .before))
+    (within (fit .before .before)) (good fit) not-suited)
 
 given-requires : tie.Need-given-requires
 given-requires c κs = search needs
@@ -131,8 +131,8 @@ returns-6 c =
     let g = graph (asked4 fit) in
     let a = start (asked4 fit) .args in
     c .run-entries .ensures ∙ ap (λ (x : Marking). runOn g x 0 (entries (a .j .now))) (c .before .given .ensures)
-    ∙ sym (restore-on g (a .r) (a .j .now) (a .m) true (clear (asked4 fit)) (long (fit .before .before .before .before .before .before)) (within (fit .before .before .before .before))
-    (good (fit .before .before)) (suit fit))
+    ∙ sym (restore-on g (a .r) (a .j .now) (a .m) true (clear (asked4 fit)) (long (fit .before .before .before .before .before .before))
+    (within (fit .before .before .before .before)) (good (fit .before .before)) (suit fit))
 
 pub restore-spec : {M : Type 1} → statement M
 restore-spec =
