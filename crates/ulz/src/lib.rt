@@ -1,5 +1,6 @@
 // The program: reads the files that its arguments name, asks the floors below, prints their answers, and answers its exit status.
-ghost use Rattle.ulz.specs.Ends.{Ends};
+ghost use mathlib.Core.Path.{_≡_};
+ghost use Rattle.ulz.specs.Ends.{Ends, forC};
 use answers::Task;
 use answers::give;
 use files::arguments::Call;
@@ -170,6 +171,22 @@ fn answer(page: &mut Page, call: Call) -> Answer {
     answer_command(page, call)
 }
 
+// Neither answered nor refused.
+const ELSE: i32 = 2;
+
+// The status as C takes it.
+fn for_c(status: u8) -> i32
+    ensures { λ r. ⌜ r ≡ forC status ⌝ }
+{
+    if status == 0 {
+        return 0;
+    }
+    if status == 1 {
+        return 1;
+    }
+    ELSE
+}
+
 // What `main` calls and returns. The status is told last, when it is known whether all lines were written.
 #[no_mangle]
 pub extern "C" fn ulz_program() -> i32
@@ -178,10 +195,5 @@ pub extern "C" fn ulz_program() -> i32
     let mut page = lines::page::blank();
     let call = files::arguments::called();
     let a = answer(&mut page, call);
-    let s = lines::status::ended(&mut page, call.status, a);
-    match s {
-        0 => 0,
-        1 => 1,
-        _ => 2,
-    }
+    for_c(lines::status::ended(&mut page, call.status, a))
 }
