@@ -1,7 +1,7 @@
 // Markings in lent memory, which is written only where the number is 0.
 ghost use mathlib.Core.Path.{_≡_};
 ghost use Rattle.moves.specs.First.{numberOfVerdict};
-ghost use Rattle.moves.specs.Move.{numberOfMove, stepOfMove};
+ghost use Rattle.moves.specs.Move.{numberOfMove, waitingOfMove};
 ghost use Rattle.sheet.specs.Sheet.{ifClear};
 ghost use Rattle.answers.specs.Lent.{markingOfWords, markingWords, keptOut};
 use crate::Kept;
@@ -29,7 +29,7 @@ fn store(m: Marking, words: &mut [u64; 3])
 // The answer to an entry on the kept marking, which is laid down where the number is 0.
 pub fn keep(k: kept::Kept, words: &mut [u64; 3]) -> Kept
     ensures { λ r. ⌜ r .number ≡ numberOfMove (k .answer) ⌝ }
-    ensures { λ r. ⌜ r .waiting ≡ stepOfMove (k .answer) ⌝ }
+    ensures { λ r. ⌜ r .waiting ≡ waitingOfMove (k .answer) ⌝ }
     ensures { λ r. ⌜ now (words .exit) ≡ keptOut k (now (words .entry)) ⌝ }
 {
     let answer = k.answer;

@@ -1,9 +1,9 @@
 // Number and values of each case of an answer, in words.
 ghost use mathlib.Core.Path.{_≡_};
-ghost use Rattle.moves.specs.First.{numberOfVerdict, numberOf, stepOf};
-ghost use Rattle.moves.specs.Move.{numberOfMove, stepOfMove, markingOfMove};
+ghost use Rattle.moves.specs.First.{numberOfVerdict, numberOf, waitingOf};
+ghost use Rattle.moves.specs.Move.{numberOfMove, waitingOfMove, markingOfMove};
 ghost use Rattle.rules.specs.Answers.{numberOfEnding};
-ghost use Rattle.journal.specs.Run.{numberOfRun, stepOfRun, indexOfRun, markingOfRun};
+ghost use Rattle.journal.specs.Run.{numberOfRun, waitingOfRun, indexOfRun, markingOfRun};
 ghost use Rattle.journal.specs.Walk.{numberOfWalked, entryOfWalked};
 ghost use Rattle.records.specs.Answers.{numberOfApplied, markingOfApplied};
 ghost use Rattle.sheet.specs.Sheet.{numberOfWritten, lengthOfWritten};
@@ -34,12 +34,12 @@ pub struct Words {
 
 pub fn said(r: Refusal) -> Words
     ensures { λ w. ⌜ w .number ≡ numberOf r ⌝ }
-    ensures { λ w. ⌜ w .waiting ≡ stepOf r ⌝ }
+    ensures { λ w. ⌜ w .waiting ≡ waitingOf r ⌝ }
 {
     let t = moves::tell(r);
     Words {
         number: t.number as u64,
-        waiting: t.step as u64,
+        waiting: t.waiting,
     }
 }
 
@@ -74,7 +74,7 @@ pub fn ending(o: rules::Ending) -> Ending
 
 pub fn moved(o: Move) -> Moved
     ensures { λ r. ⌜ r .number ≡ numberOfMove o ⌝ }
-    ensures { λ r. ⌜ r .waiting ≡ stepOfMove o ⌝ }
+    ensures { λ r. ⌜ r .waiting ≡ waitingOfMove o ⌝ }
     ensures { λ r. ⌜ r .marking ≡ markingOfMove o ⌝ }
 {
     match o {
@@ -115,7 +115,7 @@ pub fn applied(o: Applied) -> Moved
 
 pub fn ran(o: journal::Ran) -> Ran
     ensures { λ r. ⌜ r .number ≡ numberOfRun o ⌝ }
-    ensures { λ r. ⌜ r .waiting ≡ stepOfRun o ⌝ }
+    ensures { λ r. ⌜ r .waiting ≡ waitingOfRun o ⌝ }
     ensures { λ r. ⌜ r .entries ≡ indexOfRun o ⌝ }
     ensures { λ r. ⌜ r .marking ≡ markingOfRun o ⌝ }
 {

@@ -3,18 +3,18 @@
 ghost use mathlib.Core.Path.{_≡_};
 ghost use lib.ListN.{length};
 ghost use Rattle.moves.specs.First.{numberOfVerdict};
-ghost use Rattle.moves.specs.Move.{numberOfMove, stepOfMove, markingOfMove};
+ghost use Rattle.moves.specs.Move.{numberOfMove, waitingOfMove, markingOfMove};
 ghost use Rattle.rules.specs.Graph.{graphOf, graphVerdict};
 ghost use Rattle.rules.specs.Answers.{theMove, theEnding, numberOfEnding};
 ghost use Rattle.kept.specs.Keep.{theKept};
-ghost use Rattle.journal.specs.Run.{theRun, numberOfRun, stepOfRun, indexOfRun, markingOfRun};
+ghost use Rattle.journal.specs.Run.{theRun, numberOfRun, waitingOfRun, indexOfRun, markingOfRun};
 ghost use Rattle.journal.specs.Walk.{strideAt, numberOfWalked, entryOfWalked};
 ghost use Rattle.records.specs.Answers.{theJoin, theApplication, numberOfRecorded, numberOfApplied, markingOfApplied};
 ghost use Rattle.spelling.specs.Bytes.{theReading, roomOf};
 ghost use Rattle.folding.specs.Answers.{theFold, theRestoring};
 ghost use Rattle.reading.specs.Reading.{firstOf};
 ghost use Rattle.sheet.specs.Sheet.{readVerdict, ifClear, blockRead, theWritten, roomAfter, numberOfWritten, lengthOfWritten};
-ghost use Rattle.tracker.specs.Tracker.{theStart, theIdle, theStep, numberOfTracked, stepOfTracked};
+ghost use Rattle.tracker.specs.Tracker.{theStart, theIdle, theStep, numberOfTracked, waitingOfTracked};
 ghost use Rattle.answers.specs.Values.{finishedOfEnding, endedOfWalked, lengthOfSpelling};
 ghost use Rattle.answers.specs.Lent.{markingOfWords, markingWords, keptOut};
 ghost use Rattle.answers.specs.Folded.{recordIn, recordOf, spellVerdict, bytesOut, wordsOut};
@@ -53,7 +53,7 @@ pub extern "C" fn ulz_check(g: &Job) -> u64
 #[no_mangle]
 pub extern "C" fn ulz_take(g: &Job, m: Marking, e: Entry) -> Moved
     ensures { λ r. ⌜ r .number ≡ numberOfMove (theMove (graphOf (now (g .entry))) m e) ⌝ }
-    ensures { λ r. ⌜ r .waiting ≡ stepOfMove (theMove (graphOf (now (g .entry))) m e) ⌝ }
+    ensures { λ r. ⌜ r .waiting ≡ waitingOfMove (theMove (graphOf (now (g .entry))) m e) ⌝ }
     ensures { λ r. ⌜ r .marking ≡ markingOfMove (theMove (graphOf (now (g .entry))) m e) ⌝ }
 {
     let v = rules::check(g);
@@ -78,7 +78,7 @@ pub extern "C" fn ulz_finished(g: &Job, m: Marking) -> Ending
 #[no_mangle]
 pub extern "C" fn ulz_keep<'a, 'b>(g: &'a Job, m: &'b mut [u64; 3], e: Entry) -> Kept
     ensures { λ r. ⌜ r .number ≡ numberOfMove (theKept (graphOf (now (g .entry))) (markingOfWords (now (m .entry))) e .answer) ⌝ }
-    ensures { λ r. ⌜ r .waiting ≡ stepOfMove (theKept (graphOf (now (g .entry))) (markingOfWords (now (m .entry))) e .answer) ⌝ }
+    ensures { λ r. ⌜ r .waiting ≡ waitingOfMove (theKept (graphOf (now (g .entry))) (markingOfWords (now (m .entry))) e .answer) ⌝ }
     ensures { λ r. ⌜ now (m .exit) ≡ keptOut (theKept (graphOf (now (g .entry))) (markingOfWords (now (m .entry))) e) (now (m .entry)) ⌝ }
 {
     let before = lent::marking(m);
@@ -92,7 +92,7 @@ pub extern "C" fn ulz_keep<'a, 'b>(g: &'a Job, m: &'b mut [u64; 3], e: Entry) ->
 #[no_mangle]
 pub extern "C" fn ulz_run<'a, 'b>(g: &'a Job, m: Marking, journal: &'b [u8]) -> Ran
     ensures { λ r. ⌜ r .number ≡ numberOfRun (theRun (graphOf (now (g .entry))) m (now (journal .entry))) ⌝ }
-    ensures { λ r. ⌜ r .waiting ≡ stepOfRun (theRun (graphOf (now (g .entry))) m (now (journal .entry))) ⌝ }
+    ensures { λ r. ⌜ r .waiting ≡ waitingOfRun (theRun (graphOf (now (g .entry))) m (now (journal .entry))) ⌝ }
     ensures { λ r. ⌜ r .entries ≡ indexOfRun (theRun (graphOf (now (g .entry))) m (now (journal .entry))) ⌝ }
     ensures { λ r. ⌜ r .marking ≡ markingOfRun (theRun (graphOf (now (g .entry))) m (now (journal .entry))) ⌝ }
 {
@@ -204,7 +204,7 @@ pub extern "C" fn ulz_restore<'a, 'b, 'c>(
 ) -> Ran
     ensures { λ r. ⌜ r .number ≡ numberOfRun
         (theRestoring (graphOf (now (g .entry))) (recordIn (now (bytes .entry))) (now (journal .entry)) m) ⌝ }
-    ensures { λ r. ⌜ r .waiting ≡ stepOfRun
+    ensures { λ r. ⌜ r .waiting ≡ waitingOfRun
         (theRestoring (graphOf (now (g .entry))) (recordIn (now (bytes .entry))) (now (journal .entry)) m) ⌝ }
     ensures { λ r. ⌜ r .entries ≡ indexOfRun
         (theRestoring (graphOf (now (g .entry))) (recordIn (now (bytes .entry))) (now (journal .entry)) m) ⌝ }
@@ -249,7 +249,7 @@ pub extern "C" fn ulz_write<'a, 'b>(g: &'a Job, m: Marking, room: &'b mut [u8]) 
 #[no_mangle]
 pub extern "C" fn ulz_track_start(g: &Job, m: Marking) -> Tracked
     ensures { λ r. ⌜ r .number ≡ numberOfTracked (theStart (graphOf (now (g .entry))) m) ⌝ }
-    ensures { λ r. ⌜ r .waiting ≡ stepOfTracked (theStart (graphOf (now (g .entry))) m) ⌝ }
+    ensures { λ r. ⌜ r .waiting ≡ waitingOfTracked (theStart (graphOf (now (g .entry))) m) ⌝ }
     ensures { λ r. ⌜ r .track ≡ trackOfTracked noTrack (theStart (graphOf (now (g .entry))) m) ⌝ }
 {
     let o = tracker::start(g, m);
@@ -260,7 +260,7 @@ pub extern "C" fn ulz_track_start(g: &Job, m: Marking) -> Tracked
 #[no_mangle]
 pub extern "C" fn ulz_track_idle(g: &Job, t: Track) -> Tracked
     ensures { λ r. ⌜ r .number ≡ numberOfTracked (theIdle (graphOf (now (g .entry))) (trackIn t)) ⌝ }
-    ensures { λ r. ⌜ r .waiting ≡ stepOfTracked (theIdle (graphOf (now (g .entry))) (trackIn t)) ⌝ }
+    ensures { λ r. ⌜ r .waiting ≡ waitingOfTracked (theIdle (graphOf (now (g .entry))) (trackIn t)) ⌝ }
     ensures { λ r. ⌜ r .track ≡ trackOfTracked t (theIdle (graphOf (now (g .entry))) (trackIn t)) ⌝ }
 {
     let o = tracker::idle(g, tracks::track(t));
@@ -271,7 +271,7 @@ pub extern "C" fn ulz_track_idle(g: &Job, t: Track) -> Tracked
 #[no_mangle]
 pub extern "C" fn ulz_track_step(g: &Job, t: Track, e: Entry) -> Tracked
     ensures { λ r. ⌜ r .number ≡ numberOfTracked (theStep (graphOf (now (g .entry))) (trackIn t) e) ⌝ }
-    ensures { λ r. ⌜ r .waiting ≡ stepOfTracked (theStep (graphOf (now (g .entry))) (trackIn t) e) ⌝ }
+    ensures { λ r. ⌜ r .waiting ≡ waitingOfTracked (theStep (graphOf (now (g .entry))) (trackIn t) e) ⌝ }
     ensures { λ r. ⌜ r .track ≡ trackOfTracked t (theStep (graphOf (now (g .entry))) (trackIn t) e) ⌝ }
 {
     let o = tracker::advance(g, tracks::track(t), e);

@@ -18,7 +18,6 @@ use Rattle.rules.specs.Graph.{Graph, graphVerdict}
 use Rattle.moves.specs.declared.inner.Row.{Row}
 use Rattle.moves.specs.declared.Marking.{Marking}
 use Rattle.moves.specs.declared.Entry.{Entry}
-use Rattle.moves.specs.declared.Step.{Step}
 use Rattle.moves.specs.declared.Refusal.the-variants.{Unknown, NotHeld, NotOnStep, Excluded, Waits}
 use Rattle.moves.specs.declared.Verdict.{Verdict}
 use Rattle.moves.specs.declared.Move.{Move}
@@ -74,19 +73,19 @@ applies-step w s m = simp (single-within s (m .included), and-true)
     and-true false = refl
 
 -- an entry passes exactly if none of its lines holds
-moved-by-lines : (p q r i w : Bool) (s : Step) (m next : Marking)
+moved-by-lines : (p q r i w : Bool) (awaited : ℕ) (m next : Marking)
     → movedTo (moveOf (cond (not p) (Verdict.Refused Unknown)
     (cond (not q) (Verdict.Refused NotHeld)
     (cond (not r) (Verdict.Refused NotOnStep)
-    (cond (not i) (Verdict.Refused Excluded) (cond (not w) (Verdict.Refused (Waits s)) Verdict.Clear))))) m next)
+    (cond (not i) (Verdict.Refused Excluded) (cond (not w) (Verdict.Refused (Waits awaited)) Verdict.Clear))))) m next)
     ≡ cond (p && q && r) (cond (i && w) (some next) none) none
 unfolding movedTo moveOf
-moved-by-lines false q r i w s m next = refl
-moved-by-lines true false r i w s m next = refl
-moved-by-lines true true false i w s m next = refl
-moved-by-lines true true true false w s m next = refl
-moved-by-lines true true true true false s m next = refl
-moved-by-lines true true true true true s m next = refl
+moved-by-lines false q r i w awaited m next = refl
+moved-by-lines true false r i w awaited m next = refl
+moved-by-lines true true false i w awaited m next = refl
+moved-by-lines true true true false w awaited m next = refl
+moved-by-lines true true true true false awaited m next = refl
+moved-by-lines true true true true true awaited m next = refl
 
 -- an entry moves a marking exactly if some marking could allow it, its step is included and it waits for nothing
 pub moved-if : (g : Graph) (e : Entry) (m : Marking) → movedTo (entryMove g m e)

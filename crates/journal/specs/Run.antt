@@ -8,7 +8,7 @@ use Rattle.moves.specs.declared.Entry.{Entry}
 use Rattle.moves.specs.declared.Refusal.the-variants.{Length}
 use Rattle.moves.specs.declared.Verdict.{Verdict}
 use Rattle.moves.specs.declared.Move.{Move}
-use Rattle.moves.specs.First.{Line, first, numberOf, stepOf}
+use Rattle.moves.specs.First.{Line, first, numberOf, waitingOf}
 use Rattle.rules.specs.Answers.{theMove, markingLines}
 use Rattle.moves.specs.Move.{noMarking}
 use Rattle.journal.specs.declared.Ran.{Ran}
@@ -56,10 +56,10 @@ unfoldable pub indexOfRun : Ran → ℕ
 indexOfRun (Ran.Ended m k) = k
 indexOfRun (Ran.Stopped k r m) = k
 
--- the waiting step of 15
-unfoldable pub stepOfRun : Ran → ℕ
-stepOfRun (Ran.Ended m k) = 0
-stepOfRun (Ran.Stopped k r m) = stepOf r
+-- the steps that 15 waits for
+unfoldable pub waitingOfRun : Ran → ℕ
+waitingOfRun (Ran.Ended m k) = 0
+waitingOfRun (Ran.Stopped k r m) = waitingOf r
 
 -- the end marking, or the marking before the refused entry
 unfoldable pub markingOfRun : Ran → Marking

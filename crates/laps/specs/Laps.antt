@@ -11,7 +11,7 @@ use Rattle.moves.specs.declared.Entry.{Entry}
 use Rattle.moves.specs.declared.Refusal.{Refusal}
 use Rattle.moves.specs.declared.Refusal.the-variants.{Length, EmptyLap}
 use Rattle.moves.specs.declared.Verdict.{Verdict}
-use Rattle.moves.specs.First.{Line, first, numberOf, stepOf}
+use Rattle.moves.specs.First.{Line, first, numberOf, waitingOf}
 use Rattle.rules.specs.Answers.{markingLines}
 use Rattle.journal.specs.Journal.{entryOf, entries, lengthFits}
 use Rattle.laps.specs.declared.Lapped.{Lapped}
@@ -50,12 +50,19 @@ numberOfLap (Lapped.Starved s) = 0
 numberOfLap (Lapped.Refused r) = numberOf r
 numberOfLap (Lapped.Stopped k p r) = numberOf r
 
--- the step that starves, or the waiting step of 15
-unfoldable pub stepOfLap : Lapped → ℕ
-stepOfLap Lapped.Accepted = 0
-stepOfLap (Lapped.Starved s) = s .0
-stepOfLap (Lapped.Refused r) = stepOf r
-stepOfLap (Lapped.Stopped k p r) = stepOf r
+-- the steps that 15 waits for
+unfoldable pub waitingOfLap : Lapped → ℕ
+waitingOfLap Lapped.Accepted = 0
+waitingOfLap (Lapped.Starved s) = 0
+waitingOfLap (Lapped.Refused r) = waitingOf r
+waitingOfLap (Lapped.Stopped k p r) = waitingOf r
+
+-- the step that starves
+unfoldable pub starvedOfLap : Lapped → ℕ
+starvedOfLap Lapped.Accepted = 0
+starvedOfLap (Lapped.Starved s) = s .0
+starvedOfLap (Lapped.Refused r) = 0
+starvedOfLap (Lapped.Stopped k p r) = 0
 
 -- the index of the refused entry
 unfoldable pub indexOfLap : Lapped → ℕ

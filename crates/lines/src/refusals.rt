@@ -2,7 +2,7 @@
 use crate::names::say_file;
 use crate::page::Page;
 use crate::say::say;
-use crate::say::say_count;
+use crate::say::say_group;
 use crate::say::say_number;
 use crate::status::Answer;
 use moves::Refusal;
@@ -32,7 +32,7 @@ fn say_high_words(page: &mut Page, number: u8) {
         12 => say(page, b"the person does not hold this role"),
         13 => say(page, b"the step does not have this role"),
         14 => say(page, b"the step is not included"),
-        15 => say(page, b"the step waits for another"),
+        15 => say(page, b"the step waits for steps that are not done"),
         16 => say(page, b"the record does not apply to the marking"),
         17 => say(page, b"the lap is empty"),
         _ => say(page, b"there is too little room"),
@@ -63,10 +63,10 @@ pub fn say_refused(page: &mut Page, at: usize, r: Refusal) -> Answer {
     Answer::Refused
 }
 
-// With 15 the step that is waited for; nothing with any other.
+// With 15 every step that is waited for, in order; nothing with any other.
 pub fn say_waited(page: &mut Page, r: Refusal) {
     let t = moves::tell(r);
     if t.number == 15 {
-        say_count(page, b"waits for", t.step as u64);
+        say_group(page, b"waits for", t.waiting);
     }
 }

@@ -25,35 +25,35 @@ numberOf Unknown = 11
 numberOf NotHeld = 12
 numberOf NotOnStep = 13
 numberOf Excluded = 14
-numberOf (Waits s) = 15
+numberOf (Waits awaited) = 15
 numberOf NotApplied = 16
 numberOf EmptyLap = 17
 numberOf Room = 18
 
--- the step that goes with a refusal: 15 gives the lowest waiting condition, every other one 0
-unfoldable pub stepOf : Refusal → ℕ
-stepOf Layout = 0
-stepOf Counts = 0
-stepOf Bodies = 0
-stepOf Beyond = 0
-stepOf Arrows = 0
-stepOf Both = 0
-stepOf Length = 0
-stepOf Outside = 0
-stepOf NoRank = 0
-stepOf IllFormed = 0
-stepOf Unknown = 0
-stepOf NotHeld = 0
-stepOf NotOnStep = 0
-stepOf Excluded = 0
-stepOf (Waits s) = s .0
-stepOf NotApplied = 0
-stepOf EmptyLap = 0
-stepOf Room = 0
+-- the set that goes with a refusal: 15 gives the steps that are waited for, every other one the empty set
+unfoldable pub waitingOf : Refusal → ℕ
+waitingOf Layout = 0
+waitingOf Counts = 0
+waitingOf Bodies = 0
+waitingOf Beyond = 0
+waitingOf Arrows = 0
+waitingOf Both = 0
+waitingOf Length = 0
+waitingOf Outside = 0
+waitingOf NoRank = 0
+waitingOf IllFormed = 0
+waitingOf Unknown = 0
+waitingOf NotHeld = 0
+waitingOf NotOnStep = 0
+waitingOf Excluded = 0
+waitingOf (Waits awaited) = awaited
+waitingOf NotApplied = 0
+waitingOf EmptyLap = 0
+waitingOf Room = 0
 
 -- both together
 unfoldable pub toldOf : Refusal → Told
-toldOf r = record { number = numberOf r; step = stepOf r }
+toldOf r = record { number = numberOf r; waiting = waitingOf r }
 
 -- a line of a call's table: a refusal, and whether it holds
 abbrev pub Line : Type 0

@@ -87,6 +87,19 @@ first-below k (l ∷ a) r h e = go (l .1) refl (first-below k a r (and-right (lt
         (ltb-true (numberOf (l .0)) k (and-left (ltb (numberOf (l .0)) k) (numbersBelow k a) h))
     go false p rest = rest (ap (λ (h : Bool). cond h (Verdict.Refused (l .0)) (first a)) (sym p) ∙ e)
 
+-- a refusal whose number is not below k is that of the second table, where all numbers of the first are
+pub first-late : (k : ℕ) (a b : List Line) (r : Refusal) → numbersBelow k a ≡ true → first (a ++ b) ≡ Verdict.Refused r → k ≤ numberOf r
+    → (first a ≡ Verdict.Clear) × (first b ≡ Verdict.Refused r)
+first-late k a b r low e high = go (first a) refl
+  where
+    go : (v : Verdict) → first a ≡ v → (first a ≡ Verdict.Clear) × (first b ≡ Verdict.Refused r)
+    go Verdict.Clear p = (p, sym (first-clear a b p) ∙ e)
+    go (Verdict.Refused q) p =
+        let both : Verdict.Refused q ≡ Verdict.Refused r = sym (first-refused a b q p) ∙ e in
+        let same : q ≡ r = cc in
+        let below : numberOf r < k = first-below k a r low (p ∙ ap Verdict.Refused same) in
+        absurd (let w : ⊥ = omega arith in w)
+
 -- ---- the number given is the lowest that holds
 
 -- number k holds in the table

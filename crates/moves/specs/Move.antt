@@ -3,14 +3,14 @@ use Prim.Native.Nat.{ℕ, _+_}
 use mathlib.Core.List.{List, [], _∷_}
 use mathlib.Core.Bool.{Bool, not, _&&_, cond}
 use lib.Dec.{leb}
-use Rattle.sets.specs.Sets.{has, single, union, meet, minus, empty, within, lowest}
+use Rattle.sets.specs.Sets.{has, single, union, meet, minus, empty, within}
 use Rattle.moves.specs.declared.inner.Row.{Row}
 use Rattle.moves.specs.declared.Marking.{Marking}
 use Rattle.moves.specs.declared.Entry.{Entry}
 use Rattle.moves.specs.declared.Refusal.the-variants.{Outside, NotHeld, NotOnStep, Excluded, Waits}
 use Rattle.moves.specs.declared.Verdict.{Verdict}
 use Rattle.moves.specs.declared.Move.{Move}
-use Rattle.moves.specs.First.{Line, numberOf, stepOf}
+use Rattle.moves.specs.First.{Line, numberOf, waitingOf}
 
 -- Definition 5: p as r
 abbrev pub personHolds : Row → Entry → Bool
@@ -67,7 +67,7 @@ rowLines w m e =
     (NotHeld, not (personHolds w e))
     ∷ (NotOnStep, not (stepHas w e))
     ∷ (Excluded, not (isIncluded m e))
-    ∷ (Waits (record { 0 = lowest 64 (waitsFor (w .conditions) m) }), not (empty (waitsFor (w .conditions) m)))
+    ∷ (Waits (waitsFor (w .conditions) m), not (empty (waitsFor (w .conditions) m)))
     ∷ []
 
 -- ---- the answer
@@ -87,10 +87,10 @@ unfoldable pub numberOfMove : Move → ℕ
 numberOfMove (Move.Moved m) = 0
 numberOfMove (Move.Refused r m) = numberOf r
 
--- the waiting step of 15
-unfoldable pub stepOfMove : Move → ℕ
-stepOfMove (Move.Moved m) = 0
-stepOfMove (Move.Refused r m) = stepOf r
+-- the steps that 15 waits for
+unfoldable pub waitingOfMove : Move → ℕ
+waitingOfMove (Move.Moved m) = 0
+waitingOfMove (Move.Refused r m) = waitingOf r
 
 -- the marking after, or what is given back
 unfoldable pub markingOfMove : Move → Marking

@@ -47,7 +47,8 @@ pub fn moved(w: Row, m: Marking, s: u8) -> Marking
     after_one(w, m, sets::single(s))
 }
 
-// An entry on its row. Refusals 12 to 15. All tests read the marking before; the one after is only handed out.
+// An entry on its row. Refusals 12 to 15. All tests, and the set that 15 hands out, read the marking before; the one after is only
+// handed out.
 pub fn take_row(w: Row, m: Marking, e: Entry) -> Move
     requires { ⌜ (e .step .0 < 64) × (e .role < 64) ⌝ }
     ensures { λ o. ⌜ o ≡ moveOf (first (rowLines w m e)) m (after w m (e .step .0)) ⌝ }
@@ -66,7 +67,7 @@ pub fn take_row(w: Row, m: Marking, e: Entry) -> Move
     }
     let open = waits(w.conditions, m);
     if open != 0 {
-        return Move::Refused(Refusal::Waits(Step(sets::lowest(open))), m);
+        return Move::Refused(Refusal::Waits(open), m);
     }
     Move::Moved(next)
 }

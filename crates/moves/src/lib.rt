@@ -49,7 +49,7 @@ pub enum Refusal {
     NotHeld,
     NotOnStep,
     Excluded,
-    Waits(Step),
+    Waits(u64),
     NotApplied,
     EmptyLap,
     Room,
@@ -67,60 +67,87 @@ pub enum Move {
     Refused(Refusal, Marking),
 }
 
-// What a refusal says: its number on the door, and with 15 the waiting step (0 with every other).
+// What a refusal says: its number on the door, and with 15 the set of steps that are waited for (empty with every other).
 pub struct Told {
     pub number: u8,
-    pub step: u8,
+    pub waiting: u64,
 }
 
 pub fn tell(r: Refusal) -> Told
     ensures { λ t. ⌜ t ≡ toldOf r ⌝ }
 {
     match r {
-        Refusal::Layout => Told { number: 1, step: 0 },
-        Refusal::Counts => Told { number: 2, step: 0 },
-        Refusal::Bodies => Told { number: 3, step: 0 },
-        Refusal::Beyond => Told { number: 4, step: 0 },
-        Refusal::Arrows => Told { number: 5, step: 0 },
-        Refusal::Both => Told { number: 6, step: 0 },
-        Refusal::Length => Told { number: 7, step: 0 },
-        Refusal::Outside => Told { number: 8, step: 0 },
-        Refusal::NoRank => Told { number: 9, step: 0 },
+        Refusal::Layout => Told {
+            number: 1,
+            waiting: 0,
+        },
+        Refusal::Counts => Told {
+            number: 2,
+            waiting: 0,
+        },
+        Refusal::Bodies => Told {
+            number: 3,
+            waiting: 0,
+        },
+        Refusal::Beyond => Told {
+            number: 4,
+            waiting: 0,
+        },
+        Refusal::Arrows => Told {
+            number: 5,
+            waiting: 0,
+        },
+        Refusal::Both => Told {
+            number: 6,
+            waiting: 0,
+        },
+        Refusal::Length => Told {
+            number: 7,
+            waiting: 0,
+        },
+        Refusal::Outside => Told {
+            number: 8,
+            waiting: 0,
+        },
+        Refusal::NoRank => Told {
+            number: 9,
+            waiting: 0,
+        },
         Refusal::IllFormed => Told {
             number: 10,
-            step: 0,
+            waiting: 0,
         },
         Refusal::Unknown => Told {
             number: 11,
-            step: 0,
+            waiting: 0,
         },
         Refusal::NotHeld => Told {
             number: 12,
-            step: 0,
+            waiting: 0,
         },
         Refusal::NotOnStep => Told {
             number: 13,
-            step: 0,
+            waiting: 0,
         },
         Refusal::Excluded => Told {
             number: 14,
-            step: 0,
+            waiting: 0,
         },
-        Refusal::Waits(s) => Told {
+        Refusal::Waits(open) => Told {
             number: 15,
-            step: s.0,
+            waiting: open,
         },
         Refusal::NotApplied => Told {
             number: 16,
-            step: 0,
+            waiting: 0,
         },
         Refusal::EmptyLap => Told {
             number: 17,
-            step: 0,
+            waiting: 0,
         },
         Refusal::Room => Told {
             number: 18,
-            step: 0,
+            waiting: 0,
         },
     }
 }

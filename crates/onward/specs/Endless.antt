@@ -3,18 +3,10 @@ use Prim.Native.Nat.{ℕ}
 use mathlib.Core.List.{List}
 use mathlib.Core.Path.{_≡_}
 use Rattle.moves.specs.declared.Marking.{Marking}
-use Rattle.moves.specs.First.{stepOf}
 use Rattle.rules.specs.Graph.{Graph}
 use Rattle.laps.specs.declared.Lapped as answers
-use Rattle.laps.specs.Laps.{LapAnswer, numberOfLap, indexOfLap, passOfLap}
+use Rattle.laps.specs.Laps.{LapAnswer, numberOfLap, waitingOfLap, starvedOfLap, indexOfLap, passOfLap}
 use Rattle.onward.specs.declared.Lapped.{Lapped}
-
--- the waiting step of 15
-unfoldable pub waitingOfLap : answers.Lapped → ℕ
-waitingOfLap answers.Lapped.Accepted = 0
-waitingOfLap (answers.Lapped.Starved s) = 0
-waitingOfLap (answers.Lapped.Refused r) = stepOf r
-waitingOfLap (answers.Lapped.Stopped k p r) = stepOf r
 
 -- accepted, starved, or neither
 unfoldable pub verdictOfLap : answers.Lapped → ℕ
@@ -22,13 +14,6 @@ verdictOfLap answers.Lapped.Accepted = 1
 verdictOfLap (answers.Lapped.Starved s) = 2
 verdictOfLap (answers.Lapped.Refused r) = 0
 verdictOfLap (answers.Lapped.Stopped k p r) = 0
-
--- the starved step
-unfoldable pub starvedOfLap : answers.Lapped → ℕ
-starvedOfLap answers.Lapped.Accepted = 0
-starvedOfLap (answers.Lapped.Starved s) = s .0
-starvedOfLap (answers.Lapped.Refused r) = 0
-starvedOfLap (answers.Lapped.Stopped k p r) = 0
 
 abbrev pub lappedOf : answers.Lapped → Lapped
 lappedOf o =

@@ -1,6 +1,6 @@
 // The tracker's states and answers, in words.
 ghost use mathlib.Core.Path.{_≡_};
-ghost use Rattle.tracker.specs.Tracker.{numberOfTracked, stepOfTracked};
+ghost use Rattle.tracker.specs.Tracker.{numberOfTracked, waitingOfTracked};
 ghost use Rattle.onward.specs.Tracks.{rankIn, trackIn, trackOut, trackOfTracked};
 use crate::Track;
 use crate::Tracked;
@@ -48,7 +48,7 @@ fn track_out(t: tracker::Track) -> Track
 // The answer to the state t, which comes back as it was, word for word, from 11 on.
 pub fn tracked(t: Track, o: tracker::Tracked) -> Tracked
     ensures { λ r. ⌜ r .number ≡ numberOfTracked o ⌝ }
-    ensures { λ r. ⌜ r .waiting ≡ stepOfTracked o ⌝ }
+    ensures { λ r. ⌜ r .waiting ≡ waitingOfTracked o ⌝ }
     ensures { λ r. ⌜ r .track ≡ trackOfTracked t o ⌝ }
 {
     match o {

@@ -47,6 +47,13 @@ pub clear-moved : (g : Graph) (m : Marking) (e : Entry) → first (moveLines g m
 unfolding theMove moveOf
 clear-moved g m e p = ap (λ (v : Verdict). moveOf v m (after (rowOf g (e .person) (e .step .0)) m (e .step .0))) p
 
+-- a refused step is refused by the table
+pub refused-first : (g : Graph) (m back : Marking) (e : Entry) (r : Refusal) → theMove g m e ≡ Move.Refused r back
+    → first (moveLines g m e) ≡ Verdict.Refused r
+unfolding theMove
+refused-first g m back e r q =
+    refused-of (first (moveLines g m e)) m (after (rowOf g (e .person) (e .step .0)) m (e .step .0)) back r q .0
+
 -- an entry that is known names a step of the graph
 pub known-step : (g : Graph) (e : Entry) → entryKnown g e ≡ true → e .step .0 < g .steps
 known-step g e k =

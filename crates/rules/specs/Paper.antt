@@ -62,7 +62,8 @@ three-of true true false f = sym (f refl refl)
 three-of true false r f = refl
 three-of false q r f = refl
 
-has-waits : (conditions : ℕ) (m : Marking) (a : ℕ)
+-- what is waited for, step by step
+pub has-waits : (conditions : ℕ) (m : Marking) (a : ℕ)
     → has (waitsFor conditions m) a ≡ ((has conditions a && has (m .included) a) && not (has (m .done) a))
 has-waits conditions m a =
     has-minus (meet conditions (m .included)) (m .done) a

@@ -7,7 +7,7 @@ use Rattle.sets.specs.Sets.{single, union}
 use Rattle.moves.specs.declared.Marking.{Marking}
 use Rattle.moves.specs.declared.Entry.{Entry}
 use Rattle.moves.specs.declared.Move.{Move}
-use Rattle.moves.specs.Move.{numberOfMove, stepOfMove, markingOfMove}
+use Rattle.moves.specs.Move.{numberOfMove, waitingOfMove, markingOfMove}
 use Rattle.rules.specs.Graph.{Graph}
 use Rattle.records.specs.declared.Recorded.{Recorded}
 use Rattle.tracker.specs.declared.Tracked.{Tracked}
@@ -68,9 +68,9 @@ graph steps people roles stepRoles held arrows =
       holds = rows 16 held;
     }
 
--- an answer to a step: the number, the step that goes with it, the marking
+-- an answer to a step: the number, the set that goes with it, the marking
 abbrev pub given : Move → ℕ × ℕ × Marking
-given o = (numberOfMove o, stepOfMove o, markingOfMove o)
+given o = (numberOfMove o, waitingOfMove o, markingOfMove o)
 
 -- ---- the job
 

@@ -4,8 +4,8 @@ use mathlib.Core.Path.{_≡_, refl, subst}
 use mathlib.Core.List.{List, [], _∷_}
 use mathlib.Core.Bool.{true, false}
 use Rattle.sets.specs.Sets.{has, full, scan, lowest, every}
-use Rattle.moves.specs.First.{first, numberOf, stepOf}
-use Rattle.moves.specs.Move.{moveOf, isFinished, numberOfMove, stepOfMove, markingOfMove}
+use Rattle.moves.specs.First.{first, numberOf, waitingOf}
+use Rattle.moves.specs.Move.{moveOf, isFinished, numberOfMove, waitingOfMove, markingOfMove}
 use Rattle.tables.specs.Tables.{keeps}
 use Rattle.rules.specs.Graph.{setsFit}
 use Rattle.rules.specs.Answers.{theMove, entryMove}
@@ -38,8 +38,8 @@ a also b = (a, b)
 
 unfoldable pub samples : List Sample
 samples =
-    -- S1: (1,2,1) at start: 15, waits for 1
-    (1, given (theMove job firstMarking publish) ≡ (15, 1, firstMarking))
+    -- S1: (1,2,1) at start: 15, waits for {1}
+    (1, given (theMove job firstMarking publish) ≡ (15, set (1 ∷ []), firstMarking))
     -- S2: (0,0,0): Ex {0}, Re {1}, In {0,1}; not finished
     ∷ (2, (given (theMove job firstMarking reboot) ≡ (0, 0, rebooted)) × (isFinished rebooted ≡ false))
     -- S3: (1,2,1) after S2: 14
@@ -94,7 +94,7 @@ twelve = (
 )
 
 pub samples-hold : Hold samples
-unfolding samples set rows targets sources table job tracking first numberOf stepOf keeps setsFit theMove moveOf numberOfMove stepOfMove
+unfolding samples set rows targets sources table job tracking first numberOf waitingOf keeps setsFit theMove moveOf numberOfMove waitingOfMove
     markingOfMove theStart theStep trackAfter trackedOf has full scan lowest every journal theFold recordedOf foldOf entryRecord tidy join
     entries
 samples-hold = refl also (refl, refl) also refl also

@@ -10,7 +10,7 @@ use Rattle.moves.specs.declared.Rank.{Rank}
 use Rattle.moves.specs.declared.Entry.{Entry}
 use Rattle.moves.specs.declared.Verdict.{Verdict}
 use Rattle.moves.specs.declared.Refusal.the-variants.{NoRank}
-use Rattle.moves.specs.First.{Line, first, numberOf, stepOf}
+use Rattle.moves.specs.First.{Line, first, numberOf, waitingOf}
 use Rattle.moves.specs.Move.{within1to, rankOf, after, isFinished}
 use Rattle.rules.specs.Answers.{rowOf, markingLines, entryLines}
 use Rattle.tracker.specs.declared.Track.{Track}
@@ -107,8 +107,8 @@ numberOfTracked (Tracked.At t) = 0
 numberOfTracked (Tracked.Refused r) = numberOf r
 numberOfTracked (Tracked.Stays r t) = numberOf r
 
--- the waiting step of 15
-unfoldable pub stepOfTracked : Tracked → ℕ
-stepOfTracked (Tracked.At t) = 0
-stepOfTracked (Tracked.Refused r) = stepOf r
-stepOfTracked (Tracked.Stays r t) = stepOf r
+-- the steps that 15 waits for
+unfoldable pub waitingOfTracked : Tracked → ℕ
+waitingOfTracked (Tracked.At t) = 0
+waitingOfTracked (Tracked.Refused r) = waitingOf r
+waitingOfTracked (Tracked.Stays r t) = waitingOf r

@@ -1,7 +1,7 @@
 -- `tell`: each arm is the definition at its constructor. Assumes nothing.
 use mathlib.Core.Path.{sym, ap}
 use borrow.Author.Needs.{needs}
-use Rattle.moves.specs.First.{toldOf, numberOf, stepOf}
+use Rattle.moves.specs.First.{toldOf, numberOf, waitingOf}
 use Rattle.moves.proofs.tell.Statement.{statement}
 use Rattle.moves.proofs.tell.Tie as tie
 
@@ -60,75 +60,75 @@ enum-told-17 : tie.Need-enum-told-17
 enum-told-17 c = search needs
 
 returns : tie.Need-returns
-unfolding toldOf numberOf stepOf
+unfolding toldOf numberOf waitingOf
 returns c = sym (ap toldOf (c .enum-told .given .1))
 
 returns-2 : tie.Need-returns-2
-unfolding toldOf numberOf stepOf
+unfolding toldOf numberOf waitingOf
 returns-2 c = sym (ap toldOf (c .enum-told2 .given .1))
 
 returns-3 : tie.Need-returns-3
-unfolding toldOf numberOf stepOf
+unfolding toldOf numberOf waitingOf
 returns-3 c = sym (ap toldOf (c .enum-told3 .given .1))
 
 returns-4 : tie.Need-returns-4
-unfolding toldOf numberOf stepOf
+unfolding toldOf numberOf waitingOf
 returns-4 c = sym (ap toldOf (c .enum-told4 .given .1))
 
 returns-5 : tie.Need-returns-5
-unfolding toldOf numberOf stepOf
+unfolding toldOf numberOf waitingOf
 returns-5 c = sym (ap toldOf (c .enum-told5 .given .1))
 
 returns-6 : tie.Need-returns-6
-unfolding toldOf numberOf stepOf
+unfolding toldOf numberOf waitingOf
 returns-6 c = sym (ap toldOf (c .enum-told6 .given .1))
 
 returns-7 : tie.Need-returns-7
-unfolding toldOf numberOf stepOf
+unfolding toldOf numberOf waitingOf
 returns-7 c = sym (ap toldOf (c .enum-told7 .given .1))
 
 returns-8 : tie.Need-returns-8
-unfolding toldOf numberOf stepOf
+unfolding toldOf numberOf waitingOf
 returns-8 c = sym (ap toldOf (c .enum-told8 .given .1))
 
 returns-9 : tie.Need-returns-9
-unfolding toldOf numberOf stepOf
+unfolding toldOf numberOf waitingOf
 returns-9 c = sym (ap toldOf (c .enum-told9 .given .1))
 
 returns-10 : tie.Need-returns-10
-unfolding toldOf numberOf stepOf
+unfolding toldOf numberOf waitingOf
 returns-10 c = sym (ap toldOf (c .enum-told10 .given .1))
 
 returns-11 : tie.Need-returns-11
-unfolding toldOf numberOf stepOf
+unfolding toldOf numberOf waitingOf
 returns-11 c = sym (ap toldOf (c .enum-told11 .given .1))
 
 returns-12 : tie.Need-returns-12
-unfolding toldOf numberOf stepOf
+unfolding toldOf numberOf waitingOf
 returns-12 c = sym (ap toldOf (c .enum-told12 .given .1))
 
 returns-13 : tie.Need-returns-13
-unfolding toldOf numberOf stepOf
+unfolding toldOf numberOf waitingOf
 returns-13 c = sym (ap toldOf (c .enum-told13 .given .1))
 
 returns-14 : tie.Need-returns-14
-unfolding toldOf numberOf stepOf
+unfolding toldOf numberOf waitingOf
 returns-14 c = sym (ap toldOf (c .enum-told14 .given .1))
 
 returns-15 : tie.Need-returns-15
-unfolding toldOf numberOf stepOf
+unfolding toldOf numberOf waitingOf
 returns-15 c = sym (ap toldOf (c .before .r .given .1))
 
 returns-16 : tie.Need-returns-16
-unfolding toldOf numberOf stepOf
+unfolding toldOf numberOf waitingOf
 returns-16 c = sym (ap toldOf (c .enum-told15 .given .1))
 
 returns-17 : tie.Need-returns-17
-unfolding toldOf numberOf stepOf
+unfolding toldOf numberOf waitingOf
 returns-17 c = sym (ap toldOf (c .enum-told16 .given .1))
 
 returns-18 : tie.Need-returns-18
-unfolding toldOf numberOf stepOf
+unfolding toldOf numberOf waitingOf
 returns-18 c = sym (ap toldOf (c .enum-told17 .given .1))
 
 pub tell-spec : {M : Type 1} → statement M

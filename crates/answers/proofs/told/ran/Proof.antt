@@ -1,7 +1,7 @@
 -- `ran`: each arm is the definitions at its constructor. Assumes nothing.
 use mathlib.Core.Path.{refl}
 use borrow.Author.Needs.{needs}
-use Rattle.journal.specs.Run.{numberOfRun, stepOfRun, indexOfRun, markingOfRun}
+use Rattle.journal.specs.Run.{numberOfRun, waitingOfRun, indexOfRun, markingOfRun}
 use Rattle.answers.proofs.told.ran.Statement.{statement}
 use Rattle.answers.proofs.told.ran.Tie as tie
 
@@ -21,11 +21,11 @@ cast-t10 : tie.Need-cast-t10
 cast-t10 c = search needs
 
 returns : tie.Need-returns
-unfolding numberOfRun stepOfRun indexOfRun markingOfRun
+unfolding numberOfRun waitingOfRun indexOfRun markingOfRun
 returns c = rw (c .before .o .given .1) (refl, (refl, (refl, refl)))
 
 returns-2 : tie.Need-returns-2
-unfolding numberOfRun stepOfRun indexOfRun markingOfRun
+unfolding numberOfRun waitingOfRun indexOfRun markingOfRun
 returns-2 c =
     let told = c .said .ensures in
     rw (c .before .before .o2 .given .1) (told .0, (told .1, (refl, refl)))

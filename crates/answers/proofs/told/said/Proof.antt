@@ -10,12 +10,9 @@ tell-requires c κs = search needs
 cast-t3 : tie.Need-cast-t3
 cast-t3 c = search needs
 
-cast-t4 : tie.Need-cast-t4
-cast-t4 c = search needs
-
 returns : tie.Need-returns
 unfolding toldOf
-returns c = (simp (c .before .before .tell .ensures), simp (c .before .before .tell .ensures))
+returns c = (simp (c .before .tell .ensures), simp (c .before .tell .ensures))
 
 pub said-spec : {M : Type 1} → statement M
-said-spec = tie.close (tie.spec tell-requires cast-t3 cast-t4 returns)
+said-spec = tie.close (tie.spec tell-requires cast-t3 returns)

@@ -45,13 +45,10 @@ returns-3 c =
 waits-requires : tie.Need-waits-requires
 waits-requires c κs = search needs
 
-lowest-requires : tie.Need-lowest-requires
-lowest-requires c κs = search needs
-
 returns-4 : tie.Need-returns-4
 unfolding moveOf first numberOf
 returns-4 c =
-    let waited = c .before .before in
+    let waited = c .before in
     let included = waited .before in
     let on-step = included .before .before in
     let held = on-step .before .before in
@@ -59,8 +56,7 @@ returns-4 c =
       ap not (sym (held .before .has .ensures)) ∙ held .if1 .left,
       ap not (sym (on-step .before .has2 .ensures)) ∙ on-step .if2 .left,
       ap not (sym (included .before .has3 .ensures)) ∙ included .if3 .left,
-      ne-eqb _ 0 (λ q. c .before .if4 .taken (waited .waits .ensures ∙ q)),
-      c .lowest .ensures,
+      ne-eqb _ 0 (λ q. c .if4 .taken (waited .waits .ensures ∙ q)),
       waited .waits .ensures,
     )
 
@@ -91,6 +87,5 @@ take-row-spec =
     has-requires-3
     returns-3
     waits-requires
-    lowest-requires
     returns-4
     returns-5)

@@ -1,8 +1,8 @@
 -- `lapped`: each arm is the definitions at its constructor. Assumes nothing.
 use mathlib.Core.Path.{sym, ap}
 use borrow.Author.Needs.{needs}
-use Rattle.laps.specs.Laps.{numberOfLap, indexOfLap, passOfLap}
-use Rattle.onward.specs.Endless.{lappedOf, waitingOfLap, verdictOfLap, starvedOfLap}
+use Rattle.laps.specs.Laps.{numberOfLap, waitingOfLap, starvedOfLap, indexOfLap, passOfLap}
+use Rattle.onward.specs.Endless.{lappedOf, verdictOfLap}
 use Rattle.onward.proofs.endless.lapped.Statement.{statement}
 use Rattle.onward.proofs.endless.lapped.Tie as tie
 

@@ -1,7 +1,7 @@
 -- `tracked`: each arm is the definitions at its constructor. Assumes nothing.
 use mathlib.Core.Path.{refl}
 use borrow.Author.Needs.{needs}
-use Rattle.tracker.specs.Tracker.{numberOfTracked, stepOfTracked}
+use Rattle.tracker.specs.Tracker.{numberOfTracked, waitingOfTracked}
 use Rattle.onward.specs.Tracks.{trackOfTracked}
 use Rattle.onward.proofs.tracks.tracked.Statement.{statement}
 use Rattle.onward.proofs.tracks.tracked.Tie as tie
@@ -25,17 +25,17 @@ said-requires-2 : tie.Need-said-requires-2
 said-requires-2 c κs = search needs
 
 returns : tie.Need-returns
-unfolding numberOfTracked stepOfTracked trackOfTracked
+unfolding numberOfTracked waitingOfTracked trackOfTracked
 returns c = rw (c .before .before .o .given .1) (refl, (refl, c .track-out .ensures))
 
 returns-2 : tie.Need-returns-2
-unfolding numberOfTracked stepOfTracked trackOfTracked
+unfolding numberOfTracked waitingOfTracked trackOfTracked
 returns-2 c =
     let told = c .said .ensures in
     rw (c .before .before .o2 .given .1) (told .0, (told .1, refl))
 
 returns-3 : tie.Need-returns-3
-unfolding numberOfTracked stepOfTracked trackOfTracked
+unfolding numberOfTracked waitingOfTracked trackOfTracked
 returns-3 c =
     let told = c .said2 .ensures in
     rw (c .before .before .o3 .given .1) (told .0, (told .1, refl))

@@ -1,0 +1,3 @@
+pub mod Entry
+pub mod Answers
+pub mod Doing
