@@ -1,17 +1,16 @@
-// Numbers 11 to 15: what an entry that is not allowed meets of the graph and of the marking.
+// Numbers 11 to 15: what an entry that is not allowed meets of the graph, and what the refusal itself tells.
 use crate::words::say_expected;
 use crate::words::say_found as say_it;
 use crate::words::say_known;
 use crate::words::say_steps;
 use crate::words::say_wanted;
-use lines::page::Page;
 use lines::say::say;
 use lines::say::say_number;
 use lines::say::say_set;
 use moves::Entry;
-use moves::Marking;
+use moves::Told;
 use moves::inner::Row;
-use moves::inner::waits;
+use output::page::Page;
 use rules::Job;
 use rules::inner::row_at;
 
@@ -46,8 +45,8 @@ fn say_roles(page: &mut Page, roles: u64, wants: u8) {
     say(page, b" among them\n");
 }
 
-fn say_waits(page: &mut Page, open: u64, step: u8) {
-    say_steps(page, open);
+fn say_waits(page: &mut Page, waiting: u64, step: u8) {
+    say_steps(page, waiting);
     say(page, b", included and not done");
     say_expected(page, b"done before step ");
     say_number(page, step as u64);
@@ -55,7 +54,8 @@ fn say_waits(page: &mut Page, open: u64, step: u8) {
 }
 
 // On the row of the entry's person and step. Numbers 12 to 15.
-fn say_row(page: &mut Page, w: Row, m: Marking, e: Entry, number: u8) {
+fn say_row(page: &mut Page, w: Row, e: Entry, t: Told) {
+    let number = t.number;
     match number {
         12 => {
             say_one(page, b"person ", e.person);
@@ -70,15 +70,15 @@ fn say_row(page: &mut Page, w: Row, m: Marking, e: Entry, number: u8) {
             say(page, b", excluded");
             say_wanted(page, b"included");
         }
-        15 => say_waits(page, waits(w.conditions, m), e.step.0),
+        15 => say_waits(page, t.waiting, e.step.0),
         _ => {}
     }
 }
 
-pub fn say_found(page: &mut Page, g: &Job, m: Marking, e: Entry, number: u8) {
+pub fn say_found(page: &mut Page, g: &Job, e: Entry, t: Told) {
     let p = e.person;
     let s = e.step.0;
-    if number == 11 {
+    if t.number == 11 {
         say_unknown(page, g, e);
         return;
     }
@@ -88,5 +88,5 @@ pub fn say_found(page: &mut Page, g: &Job, m: Marking, e: Entry, number: u8) {
     if 63 < s {
         return;
     }
-    say_row(page, row_at(g, p, s), m, e, number);
+    say_row(page, row_at(g, p, s), e, t);
 }

@@ -1,7 +1,7 @@
 // Number 7: the length of a journal.
 use crate::words::say_length;
 use crate::words::say_wanted;
-use lines::page::Page;
+use output::page::Page;
 
 pub fn say_found(page: &mut Page, journal: &[u8]) {
     say_length(page, journal.len());

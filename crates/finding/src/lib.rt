@@ -1,11 +1,7 @@
 // What made a number hold: looked for in the input, and said below the refusal in two lines, what was found and what was expected there.
 pub mod entries;
 pub mod journals;
-pub mod layouts;
 pub mod markings;
 pub mod parts;
-pub mod pointed;
 pub mod recorded;
-pub mod roles;
-pub mod sheets;
 pub mod words;

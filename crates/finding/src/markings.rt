@@ -7,9 +7,9 @@ use crate::parts::beyond;
 use crate::parts::first_of;
 use crate::words::say_known;
 use crate::words::say_steps;
-use lines::page::Page;
 use lines::say::say;
 use moves::Marking;
+use output::page::Page;
 
 // The steps beyond n of the first of done, due, included that has such.
 pub fn first_stray(n: u64, m: Marking) -> Held

@@ -13,10 +13,10 @@ use crate::words::say_length;
 use crate::words::say_size;
 use crate::words::say_steps;
 use crate::words::say_wanted;
-use lines::page::Page;
 use lines::say::say;
 use lines::say::say_number;
 use moves::Marking;
+use output::page::Page;
 use records::Record;
 
 // A pair of sets, by its place in the order of the rule, and the steps that both have.

@@ -1,8 +1,8 @@
 // The pieces that the two lines are made of.
-use lines::page::Page;
 use lines::say::say;
 use lines::say::say_number;
 use lines::say::say_set;
+use output::page::Page;
 
 pub fn say_found(page: &mut Page, text: &[u8]) {
     say(page, b"found: ");

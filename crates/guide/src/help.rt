@@ -3,8 +3,8 @@ use crate::commands::Command;
 use crate::texts::say_more;
 use crate::texts::say_phrase;
 use crate::usage::say_use;
-use lines::page::Page;
 use lines::say::say;
+use output::page::Page;
 
 fn say_command(page: &mut Page, c: Command) {
     say_use(page, c);

@@ -1,7 +1,7 @@
 // What each command answers, in a phrase and in a few lines.
 use crate::commands::Command;
-use lines::page::Page;
 use lines::say::say;
+use output::page::Page;
 
 pub fn say_phrase(page: &mut Page, c: Command) {
     match c {

@@ -1,7 +1,7 @@
 // How each command is called.
 use crate::commands::Command;
-use lines::page::Page;
 use lines::say::say;
+use output::page::Page;
 
 pub fn say_command_word(page: &mut Page, c: Command) {
     match c {

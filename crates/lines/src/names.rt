@@ -1,7 +1,7 @@
 // Names as they were typed: files, and words that are none of the program's.
-use crate::page::Page;
-use crate::page::put;
-use crate::page::say;
+use output::page::Page;
+use output::page::put;
+use output::page::say;
 
 // A name may hold an end of line, and it is to stand in one line.
 fn shown(b: u8) -> u8 {

@@ -1,12 +1,12 @@
 // Refusals in words: what each number says, understandable by itself on a screen.
 use crate::names::say_file;
-use crate::page::Page;
 use crate::say::say;
 use crate::say::say_group;
 use crate::say::say_number;
-use crate::status::Answer;
 use moves::Refusal;
 use moves::Told;
+use output::page::Page;
+use output::status::Answer;
 
 fn say_low_words(page: &mut Page, number: u8) {
     match number {

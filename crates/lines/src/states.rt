@@ -1,12 +1,12 @@
 // Markings, endings, entries and records.
-use crate::page::Page;
 use crate::refusals::say_refused;
 use crate::say::say;
 use crate::say::say_group;
 use crate::say::say_number;
-use crate::status::Answer;
 use moves::Entry;
 use moves::Marking;
+use output::page::Page;
+use output::status::Answer;
 use records::Record;
 use rules::Ending;
 

@@ -2,14 +2,14 @@
 use files::writing::Target;
 use journal::Ran;
 use journal::Walked;
-use lines::page::Page;
 use lines::places::Places;
 use lines::places::place_of;
 use lines::refusals::say_refused;
 use lines::states::say_marking;
-use lines::status::Answer;
 use moves::Marking;
 use moves::Refusal;
+use output::page::Page;
+use output::status::Answer;
 use records::Applied;
 use records::Record;
 use records::Recorded;

@@ -2,13 +2,13 @@
 use files::complaints::complain;
 use journal::Ran;
 use journal::Walked;
-use lines::page::Page;
 use lines::refusals::say_words;
 use lines::say::say;
 use lines::say::say_number;
-use lines::status::Answer;
 use moves::Marking;
 use moves::Refusal;
+use output::page::Page;
+use output::status::Answer;
 use rules::EXCLUDES;
 use rules::Job;
 use running::runs::say_entry_of;

@@ -1,7 +1,6 @@
 // Who may take which step now, and what keeps the others back.
 use crate::runs::say_halted;
 use journal::Ran;
-use lines::page::Page;
 use lines::places::Places;
 use lines::say::say;
 use lines::say::say_count;
@@ -9,11 +8,12 @@ use lines::say::say_number;
 use lines::say::say_set;
 use lines::states::say_ending;
 use lines::states::say_marking;
-use lines::status::Answer;
 use moves::Entry;
 use moves::Marking;
 use moves::Move;
 use moves::Step;
+use output::page::Page;
+use output::status::Answer;
 use rules::CONDITIONS;
 use rules::Job;
 

@@ -2,19 +2,18 @@
 use crate::runs::say_entry_at;
 use crate::runs::say_entry_found;
 use crate::runs::say_unstarted;
-use journal::Ran;
 use journal::Walked;
 use laps::Lapped;
 use laps::Pass;
-use lines::page::Page;
 use lines::places::Places;
 use lines::refusals::say_refused;
 use lines::refusals::say_waited;
 use lines::say::say;
 use lines::say::say_count;
-use lines::status::Answer;
 use moves::Marking;
 use moves::Refusal;
+use output::page::Page;
+use output::status::Answer;
 use rules::Job;
 
 fn say_pass(page: &mut Page, p: Pass) {
@@ -74,55 +73,39 @@ fn say_unlapped(
     }
 }
 
-// Where the journal leads, as far as it goes.
-fn led(g: &Job, m: Marking, j: &[u8]) -> Marking {
-    let o = journal::run(g, m, j);
-    match o {
-        Ran::Ended(end, _) => end,
-        Ran::Stopped(_, _, before) => before,
-    }
-}
-
-// The index counts in the stem or in the lap; m is the marking before the entry.
+// Stopped at entry k of one of the two journals.
 fn say_halt_at(
     page: &mut Page,
     at: usize,
     g: &Job,
-    m: Marking,
     j: &[u8],
     k: u16,
     p: Pass,
     r: Refusal,
 ) -> Answer {
     let refused = say_refused(page, at, r);
-    say_entry_found(page, g, m, j, k, moves::tell(r).number);
+    say_entry_found(page, g, j, k, moves::tell(r));
     say_pass(page, p);
     say_entry_at(page, j, k);
     say_waited(page, r);
     refused
 }
 
-// The stem, and after the first lap the lap, are run again as far as the entry, for the marking before it.
+// The index counts in the stem or in the lap.
 fn say_halt(
     page: &mut Page,
     at: Places,
     g: &Job,
-    m: Marking,
     stem: &[u8],
     lap: &[u8],
     k: u16,
     p: Pass,
     r: Refusal,
 ) -> Answer {
-    let once = led(g, m, stem);
     if let Pass::Stem = p {
-        return say_halt_at(page, at.journal, g, once, stem, k, p, r);
+        return say_halt_at(page, at.journal, g, stem, k, p, r);
     }
-    let twice = led(g, once, lap);
-    if let Pass::First = p {
-        return say_halt_at(page, at.lap, g, twice, lap, k, p, r);
-    }
-    say_halt_at(page, at.lap, g, led(g, twice, lap), lap, k, p, r)
+    say_halt_at(page, at.lap, g, lap, k, p, r)
 }
 
 pub fn lap(page: &mut Page, at: Places, g: &Job, m: Marking, stem: &[u8], again: &[u8]) -> Answer {
@@ -138,6 +121,6 @@ pub fn lap(page: &mut Page, at: Places, g: &Job, m: Marking, stem: &[u8], again:
             Answer::No
         }
         Lapped::Refused(r) => say_unlapped(page, at, g, m, stem, again, r),
-        Lapped::Stopped(k, p, r) => say_halt(page, at, g, m, stem, again, k, p, r),
+        Lapped::Stopped(k, p, r) => say_halt(page, at, g, stem, again, k, p, r),
     }
 }

@@ -1,10 +1,10 @@
 // A journal in words.
 use crate::runs::say_entry_at;
 use journal::Walked;
-use lines::page::Page;
 use lines::refusals::say_refused;
 use lines::say::say_count;
-use lines::status::Answer;
+use output::page::Page;
+use output::status::Answer;
 
 // A journal has at most 21,845 entries.
 const MOST: u16 = 21845;

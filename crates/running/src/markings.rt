@@ -1,9 +1,9 @@
 // Markings as files of 24 bytes.
 use files::writing::Target;
 use files::writing::store_to;
-use lines::page::Page;
 use lines::say::say_wrote;
 use moves::Marking;
+use output::page::Page;
 
 // The marking as body 2 of a sheet has it. Is it written, or was nothing to be written?
 pub fn keep_marking(t: Target, m: Marking) -> bool {

@@ -4,7 +4,6 @@ use crate::markings::say_kept;
 use files::writing::Target;
 use journal::Ran;
 use journal::Walked;
-use lines::page::Page;
 use lines::places::Places;
 use lines::places::place_of;
 use lines::refusals::say_refused;
@@ -14,9 +13,11 @@ use lines::say::say_count;
 use lines::states::say_ending;
 use lines::states::say_entry;
 use lines::states::say_marking;
-use lines::status::Answer;
 use moves::Marking;
 use moves::Refusal;
+use moves::Told;
+use output::page::Page;
+use output::status::Answer;
 use rules::Job;
 
 // Entry k of the journal, with no end of line.
@@ -27,11 +28,11 @@ pub fn say_entry_of(page: &mut Page, j: &[u8], k: u16) {
     }
 }
 
-// What entry k meets at marking m of what the number speaks of.
-pub fn say_entry_found(page: &mut Page, g: &Job, m: Marking, j: &[u8], k: u16, number: u8) {
+// What entry k meets of what the refusal speaks of.
+pub fn say_entry_found(page: &mut Page, g: &Job, j: &[u8], k: u16, t: Told) {
     let w = journal::walk_at(j, k as usize).said;
     if let Walked::At(e) = w {
-        finding::entries::say_found(page, g, m, e, number);
+        finding::entries::say_found(page, g, e, t);
     }
 }
 
@@ -52,15 +53,15 @@ pub fn say_stopped(
     m: Marking,
 ) -> Answer {
     let refused = say_refused(page, place_of(p, r), r);
-    let number = moves::tell(r).number;
-    if number == 7 {
+    let t = moves::tell(r);
+    if t.number == 7 {
         finding::journals::say_found(page, j);
     }
-    if number < 11 {
+    if t.number < 11 {
         return refused;
     }
-    if number < 16 {
-        say_entry_found(page, g, m, j, k, number);
+    if t.number < 16 {
+        say_entry_found(page, g, j, k, t);
         say_entry_at(page, j, k);
         say_waited(page, r);
     }

@@ -1,7 +1,6 @@
 // The tracker, entry by entry.
 use crate::runs::say_unstarted;
 use journal::Walked;
-use lines::page::Page;
 use lines::places::Places;
 use lines::places::place_of;
 use lines::refusals::say_refused;
@@ -12,10 +11,11 @@ use lines::say::say_flag;
 use lines::say::say_number;
 use lines::states::say_entry;
 use lines::states::say_marking;
-use lines::status::Answer;
 use moves::Entry;
 use moves::Marking;
 use moves::Refusal;
+use output::page::Page;
+use output::status::Answer;
 use rules::Job;
 use tracker::Track;
 use tracker::Tracked;
@@ -37,7 +37,7 @@ fn say_place(page: &mut Page, t: Track) {
 
 fn say_stays(page: &mut Page, p: Places, g: &Job, k: usize, e: Entry, r: Refusal, t: Track) {
     say_refused(page, place_of(p, r), r);
-    finding::entries::say_found(page, g, t.marking, e, moves::tell(r).number);
+    finding::entries::say_found(page, g, e, moves::tell(r));
     say_entry(page, k as u64, e);
     say(page, b"\n");
     say_waited(page, r);

@@ -1,11 +1,11 @@
 // A graph, line by line.
 ghost use Prim.Native.Nat.{_≤_};
-use lines::page::Page;
 use lines::say::say;
 use lines::say::say_count;
 use lines::say::say_number;
 use lines::say::say_set;
 use moves::Marking;
+use output::page::Page;
 use rules::ALLOWS;
 use rules::CONDITIONS;
 use rules::EXCLUDES;

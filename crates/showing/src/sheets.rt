@@ -7,13 +7,13 @@ use crate::graphs::say_steps;
 use files::writing::Target;
 use files::writing::front;
 use files::writing::store_to;
-use lines::page::Page;
 use lines::refusals::say_refused;
 use lines::say::say;
 use lines::say::say_wrote;
 use lines::states::say_ending;
-use lines::status::Answer;
 use moves::Marking;
+use output::page::Page;
+use output::status::Answer;
 use rules::Job;
 use sheet::Written;
 

@@ -1,9 +1,9 @@
 // The small sample job: after a reboot the order of the sensors is checked before anything is published.
 //
 // Steps: 0 reboot, 1 order check, 2 publish. Roles: 0 climber, 1 desk. Person 0 is a climber, person 1 sits at the desk.
-use lines::page::Page;
 use lines::say::say;
 use moves::Marking;
+use output::page::Page;
 use rules::ALLOWS;
 use rules::CONDITIONS;
 use rules::EXCLUDES;

@@ -7,10 +7,10 @@ use crate::job::START;
 use files::complaints::complain_error;
 use files::writing::front;
 use files::writing::store;
-use lines::page::Page;
 use lines::refusals::say_refused;
 use lines::say::say;
 use lines::say::say_number;
+use output::page::Page;
 use rules::Job;
 use sheet::Written;
 

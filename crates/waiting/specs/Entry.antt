@@ -207,8 +207,7 @@ waits-exactly g m e = (λ is. there (first (moveLines g m e)) refl (sym (move-nu
         let clear : graphVerdict g ≡ Verdict.Clear = clear-front (graphLines g) (markingLines g m) (parts .0) in
         let small : awaited < 2 ^ (g .steps) =
         minus-lt (g .steps) (meet (conditionsOf g (e .step .0)) (m .included)) (m .done)
-        (meet-lt (g .steps) (conditionsOf g (e .step .0)) (m .included) (clear-sound g clear .conditions-in (e .step .0))) in
-        (
+        (meet-lt (g .steps) (conditionsOf g (e .step .0)) (m .included) (clear-sound g clear .conditions-in (e .step .0))) in (
           record {
             ready = ready g m e (parts .0) (w .known);
             person-as = w .person-as;

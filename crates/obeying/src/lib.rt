@@ -1,0 +1,4 @@
+// The program between its arguments and its answers.
+mod answers;
+pub mod calls;
+mod wrong;
