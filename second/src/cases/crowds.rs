@@ -1,4 +1,4 @@
-//! Jobs in which a step waits for nearly all steps that there are, from the start or after other entries.
+//! Jobs in which a step waits: for nearly all steps that there are, for some or for one, from the start or after other entries.
 
 use super::{
     entries::{fitting, known},
@@ -28,14 +28,27 @@ pub fn make(dice: &mut Dice) -> Crowd {
     let (all, both) = (first(graph.steps), 1 << waits.step | 1 << opens.step);
     let [waiting, opening] = [waits.step, opens.step].map(usize::from);
     graph.conditions[opening] = 0;
-    graph.conditions[waiting] = all & !one_or_none(dice, graph.steps) & if once { !both } else { u64::MAX };
+    graph.conditions[waiting] = crowd(dice, graph.steps, both) & if once { !both } else { u64::MAX };
     (graph.includes[opening], graph.excludes[opening]) = (all, 0);
-    let included = if once || dice.one_in(2) { both } else { all };
+    let included = if once || dice.one_in(3) { both } else { all };
     let marking = Marking { done: one_or_none(dice, graph.steps), due: dice.word() & all, included };
     let mut before = Vec::new();
-    let times = if once { 1 } else { dice.below(4) };
+    let times = if once { 1 } else { dice.pick(&[0, 0, 1, 2, 3]) };
     (0..times).for_each(|_| push(&mut before, opens));
     Crowd { graph, marking, before, waits }
+}
+
+/// Nearly all, half of the time; or any set; or one step that is none of these.
+fn crowd(dice: &mut Dice, steps: u64, but: u64) -> u64 {
+    let all = first(steps);
+    match dice.below(4) {
+        0 => dice.member(all & !but).map_or(0, |step| 1 << step),
+        1 => {
+            let density = dice.density();
+            dice.set(density) & all
+        }
+        _ => all & !one_or_none(dice, steps),
+    }
 }
 
 /// The same as one journal: what passes, what waits, and at times others behind it.

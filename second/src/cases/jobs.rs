@@ -22,8 +22,8 @@ pub struct Job {
 }
 
 /// The first is the sample job with a record that applies everywhere, the second has all 12,288 arrows, the third a journal of
-/// full length; the others are of any kind, and a quarter of them has a damaged sheet, but for those with a step that waits for
-/// nearly all.
+/// full length; the others are of any kind, and a quarter of them has a damaged sheet, but for those with a step that most
+/// often waits for many.
 pub fn make(dice: &mut Dice, index: u64) -> Job {
     match index {
         0 => {

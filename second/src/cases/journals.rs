@@ -35,7 +35,7 @@ pub fn make(dice: &mut Dice) -> Journal {
 
 /// A job and a journal of it, undamaged.
 pub fn whole(dice: &mut Dice) -> (Graph, Marking, Vec<u8>) {
-    if dice.one_in(6) {
+    if dice.one_in(5) {
         return crowds::journal(dice);
     }
     let (graph, marking) = lively_job(dice);

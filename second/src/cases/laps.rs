@@ -35,7 +35,7 @@ pub fn make(dice: &mut Dice) -> Lap {
 }
 
 fn whole(dice: &mut Dice) -> Lap {
-    if dice.one_in(6) {
+    if dice.one_in(5) {
         return crowded(dice);
     }
     let (graph, marking) = lively_job(dice);
@@ -43,7 +43,7 @@ fn whole(dice: &mut Dice) -> Lap {
     Lap { graph, marking, stem: Bytes(stem), lap: Bytes(lap) }
 }
 
-/// A step waits for nearly all: in the stem, behind what passes in the lap, or in a lap of its own, in which it may pass once.
+/// A step waits, most often for many: in the stem, behind what passes in the lap, or in a lap of its own, that may pass once.
 fn crowded(dice: &mut Dice) -> Lap {
     let Crowd { graph, marking, before, waits } = crowds::make(dice);
     let mut alone = Vec::new();

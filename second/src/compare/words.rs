@@ -6,8 +6,8 @@ use second::data::{Ran, Tracked};
 /// and its multiples.
 pub type Kind = (u64, &'static str);
 
-/// By its number, and by how many steps are waited for: some with 15, and none with any other. A 15 that waits for none, or another
-/// number that waits for some, is no answer of any call.
+/// By its number, and by how many steps are waited for: with 15 there are such, and with any other number there are none, or it is
+/// no answer of any call.
 pub fn by_crowd(number: u64, waiting: u64) -> u64 {
     let crowd = match waiting.count_ones() {
         0 => 0,

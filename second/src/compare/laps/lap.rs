@@ -18,8 +18,8 @@ const FIRST: &[Kind] = &[
     (256 + WAITS_FOR_MOST.0, "  in the first lap, for 63 or 64"),
 ];
 
-/// Of the second, where only what depends on the marking can be new: the entry's step has been done, and is not waited for. No later
-/// lap is refused.
+/// Of the second, where only what depends on the marking can be new. Its step has been done by then, and is not among those that
+/// are waited for. No later lap is refused.
 const SECOND: &[Kind] = &[
     (512 + 14, "  in the second lap"),
     (512 + WAITS_FOR_ONE.0, "  in the second lap, for one"),
