@@ -22,8 +22,8 @@ pub struct Job {
 }
 
 /// The first is the sample job with a record that applies everywhere, the second has all 12,288 arrows, the third a journal of
-/// full length; the others are of any kind, and a quarter of them has a damaged sheet, but for those with a step that most
-/// often waits for many.
+/// full length; the others are of any kind, one in six with a step that most often waits for many, and a quarter of them has a
+/// damaged sheet.
 pub fn make(dice: &mut Dice, index: u64) -> Job {
     match index {
         0 => {
@@ -35,10 +35,12 @@ pub fn make(dice: &mut Dice, index: u64) -> Job {
             of_graph(dice, &graph, marking, 0)
         }
         2 => long(dice),
-        _ if dice.one_in(12) => crowded(dice),
         _ => {
-            let (graph, marking) = any(dice);
             let faults = dice.pick(&[0, 0, 0, 0, 0, 0, 1, 2]);
+            if dice.one_in(6) {
+                return crowded(dice, faults);
+            }
+            let (graph, marking) = any(dice);
             of_graph(dice, &graph, marking, faults)
         }
     }
@@ -80,9 +82,9 @@ fn long(dice: &mut Dice) -> Job {
 }
 
 /// No entry, the one that waits, others before it, and those alone.
-fn crowded(dice: &mut Dice) -> Job {
+fn crowded(dice: &mut Dice, faults: usize) -> Job {
     let Crowd { graph, marking, before, waits } = crowds::make(dice);
-    let (job, mut alone) = (of_graph(dice, &graph, marking, 0), Vec::new());
+    let (job, mut alone) = (of_graph(dice, &graph, marking, faults), Vec::new());
     push(&mut alone, waits);
     Job { journals: [Vec::new(), alone.clone(), [before.clone(), alone].concat(), before], ..job }
 }
