@@ -59,7 +59,9 @@ int main(void) {
 
     ulz_moved moved = ulz_take(&g, start, publish);
     expect(ULZ_WAITS, moved.number);
-    printf("publish: refused with %d, %s: %d\n", (int)moved.number, ulz_text(moved.number), (int)moved.waiting);
+    printf("publish: refused with %d, %s", (int)moved.number, ulz_text(moved.number));
+    print_set(":", moved.waiting);
+    printf("\n");
 
     ulz_marking marking = start;
     expect(ULZ_ANSWERED, ulz_keep(&g, &marking, reboot).number);

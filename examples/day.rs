@@ -3,7 +3,7 @@
 
 use std::collections::BTreeSet;
 use std::error::Error;
-use ulzhartep::{Entry, Graph, Marking, Refusal, Verdict};
+use ulzhartep::{steps, Entry, Graph, Marking, Refusal, Verdict};
 
 const REBOOT: Entry = Entry {
     person: 0,
@@ -21,6 +21,10 @@ const REBOOTED: [u8; 3] = [0, 0, 0];
 const CHECKED: [u8; 3] = [0, 1, 0];
 const PUBLISHED: [u8; 3] = [1, 2, 1];
 
+fn shown(set: u64) -> BTreeSet<u64> {
+    steps(set).collect()
+}
+
 fn print_marking(
     when: &str,
     Marking {
@@ -29,16 +33,11 @@ fn print_marking(
         included,
     }: Marking,
 ) {
-    let steps = |set: u64| {
-        (0..64)
-            .filter(|step| set >> step & 1 == 1)
-            .collect::<BTreeSet<_>>()
-    };
     println!(
         "{when}: done {:?}, due {:?}, included {:?}",
-        steps(done),
-        steps(due),
-        steps(included)
+        shown(done),
+        shown(due),
+        shown(included)
     );
 }
 
@@ -57,11 +56,12 @@ fn job() -> Graph {
 fn main() -> Result<(), Box<dyn Error>> {
     let (g, start) = (job(), Marking::new(0, 0, 0b111));
     g.check()?;
-    if let Err(refusal @ Refusal::Waits(step)) = g.take(start, PUBLISH) {
+    if let Err(refusal @ Refusal::Waits(waiting)) = g.take(start, PUBLISH) {
         println!(
-            "publish: refused with {}, {}: {step}",
+            "publish: refused with {}, {}: {:?}",
             refusal.number(),
-            refusal.text()
+            refusal.text(),
+            shown(waiting)
         );
     }
 

@@ -69,7 +69,7 @@ enum {
     ULZ_NOT_HELD = 12,    /* the entry's person lacks the role */
     ULZ_NOT_ON_STEP = 13, /* the entry's step cannot be taken in the role */
     ULZ_EXCLUDED = 14,    /* the entry's step is not included at present */
-    ULZ_WAITS = 15,       /* the entry's step waits for another, whose number stands in the answer's field waiting */
+    ULZ_WAITS = 15,       /* the entry's step waits for steps that are not done: the set in the answer's field waiting */
     ULZ_NOT_APPLIED = 16, /* the record is never, or the marking lacks what it needs */
     ULZ_EMPTY_LAP = 17,   /* the lap has no entry */
     ULZ_ROOM = 18         /* the room is shorter than what would be written */
@@ -93,7 +93,7 @@ static inline const char *ulz_text(uint64_t number) {
         "the person does not hold this role",
         "the step does not have this role",
         "the step is not included",
-        "the step waits for another",
+        "the step waits for steps that are not done",
         "the record does not apply to the marking",
         "the lap is empty",
         "there is too little room",
@@ -158,7 +158,10 @@ typedef struct ulz_record {
  *
  * Every answer has a number, one of those above. All but three have
  *
- *     waiting   with ULZ_WAITS the lowest step that is waited for, with every other number 0
+ *     waiting   with ULZ_WAITS the set of all steps that are waited for: those of conditions[step] that are included and not done
+ *               at the marking before the entry. With ULZ_WAITS it is never empty, with every other number it is 0
+ *
+ * To go through it: for (int s = 0; s < 64; s++) if (moved.waiting >> s & 1) printf("%d\n", s);
  *
  * With any number but ULZ_ANSWERED the other fields are 0, except that
  *

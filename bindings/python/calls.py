@@ -13,6 +13,22 @@ def overflows(call, *arguments):
     return False
 
 
+def waiting(start):
+    """Every call that can wait, where publishing waits for all three steps and then for all but the check."""
+    graph = job()
+    graph.conditions[2] = 0b111
+    why = refused(graph.take, start, PUBLISH)
+    assert (why.waiting, str(why)) == (0b111, "15 the step waits for steps that are not done: 0 1 2")
+    assert refused(graph.keep, start, PUBLISH).waiting == 0b111
+    assert refused(graph.track_step, graph.track_start(start), PUBLISH).waiting == 0b111
+    late = refused(graph.run, start, bytes(CHECK) + bytes(PUBLISH))
+    assert (late.waiting, late.entries) == (0b101, 1)
+    assert refused(graph.restore, graph.fold(bytes(CHECK)), bytes(PUBLISH), start).waiting == 0b101
+    lap = refused(graph.lap, start, bytes(CHECK), bytes(PUBLISH))
+    assert (lap.waiting, lap.lap_pass) == (0b101, 1)
+    assert refused(graph.run, start, bytes(REBOOT) + bytes(PUBLISH)).waiting is None
+
+
 def main():
     graph, start = job(), Marking(0, 0, 0b111)
     rebooted = Marking(0b001, 0b010, 0b011)
@@ -41,6 +57,7 @@ def main():
     assert (track.rank, track.flag, graph.track_idle(track)) == (1, 1, track)
     track = graph.track_step(track, REBOOT)
     assert (track.rank, track.flag, track.marking) == (1, 0, rebooted)
+    waiting(start)
     assert overflows(Entry, 256, 0, 0) and overflows(Marking, 1 << 64) and overflows(ulzhartep.apply, -1, first, start)
     assert overflows(graph.conditions.__setitem__, 0, 1 << 64) and overflows(setattr, graph, "steps", -1)
     print("every call answers")

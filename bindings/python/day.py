@@ -1,16 +1,17 @@
 """A day of the sample job: 0 reboot, 1 order check, 2 publish. After a reboot nothing is published before the check, also where
 the journal has been folded into a record and forgotten."""
 
-from ulzhartep import Entry, Graph, Marking, Refused
+from ulzhartep import Entry, Graph, Marking, Refused, steps
 
 REBOOT, CHECK, PUBLISH = Entry(0, 0, 0), Entry(0, 1, 0), Entry(1, 2, 1)
 
 
-def print_marking(when, marking):
-    def steps(numbers):
-        return "{" + ", ".join(str(step) for step in range(64) if numbers >> step & 1) + "}"
+def shown(members):
+    return "{" + ", ".join(map(str, steps(members))) + "}"
 
-    print(f"{when}: done {steps(marking.done)}, due {steps(marking.due)}, included {steps(marking.included)}")
+
+def print_marking(when, marking):
+    print(f"{when}: done {shown(marking.done)}, due {shown(marking.due)}, included {shown(marking.included)}")
 
 
 def job():
@@ -38,7 +39,7 @@ def main():
     graph, start = job(), Marking(done=0, due=0, included=0b111)
     graph.check()
     why = refused(graph.take, start, PUBLISH)
-    print(f"publish: refused with {why.number}, {why.text}: {why.waiting}")
+    print(f"publish: refused with {why.number}, {why.text}: {shown(why.waiting)}")
 
     marking = Marking(included=0b111)
     graph.keep(marking, REBOOT)

@@ -64,7 +64,7 @@ TEXTS = (
     "the person does not hold this role",
     "the step does not have this role",
     "the step is not included",
-    "the step waits for another",
+    "the step waits for steps that are not done",
     "the record does not apply to the marking",
     "the lap is empty",
     "there is too little room",
@@ -72,7 +72,8 @@ TEXTS = (
 
 
 class Refused(Exception):
-    """A call was refused: refusal, number and text say why. waiting is the lowest step that is waited for, where the number is 15.
+    """A call was refused: refusal, number and text say why. With 15 waiting is the set of all steps that are waited for, which
+    steps(waiting) lists; with every other number it is None.
 
     Of a run or restore, with 11 to 15, entries is the index of the refused entry and marking the one before it. Of a lap, with 11
     to 15, index and lap_pass say where it was: 0 stem, 1 first time round the lap, 2 second, 3 later.
@@ -88,7 +89,13 @@ class Refused(Exception):
         self.marking = getattr(answer, "marking", None) if at_entry else None
         self.index = getattr(answer, "index", None) if at_entry else None
         self.lap_pass = getattr(answer, "lap_pass", None) if at_entry else None
-        super().__init__(f"{self.number} {self.text}" + ("" if self.waiting is None else f": {self.waiting}"))
+        waits_for = "" if self.waiting is None else ": " + " ".join(map(str, steps(self.waiting)))
+        super().__init__(f"{self.number} {self.text}{waits_for}")
+
+
+def steps(members):
+    """The steps of a set, in ascending order."""
+    return [step for step in range(64) if members >> step & 1]
 
 
 def _fits(value, ceiling):

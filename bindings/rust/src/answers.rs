@@ -1,4 +1,5 @@
-//! The answers. A number of 0 says that the call is answered, and `waiting` is a step only with 15.
+//! The answers. A number of 0 says that the call is answered. `waiting` is the set of all steps that are waited for: with 15 it has
+//! at least one, with every other number it is 0.
 
 use crate::{Entry, Marking, Track};
 

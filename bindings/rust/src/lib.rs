@@ -30,7 +30,7 @@ pub use graph::Graph;
 pub use journals::{apply, join, walk, LapRefused, Passed, Stopped, Verdict};
 pub use record::Record;
 pub use refusal::Refusal;
-pub use state::{Entry, Marking, Track};
+pub use state::{steps, Entry, Marking, Track};
 
 /// The longest journal, in bytes: 21,845 entries.
 pub const JOURNAL_BYTES: usize = 65_535;

@@ -1,3 +1,4 @@
+use crate::steps;
 use std::error::Error;
 use std::fmt;
 
@@ -32,7 +33,7 @@ pub enum Refusal {
     NotOnStep,
     /// The entry's step is not included.
     Excluded,
-    /// The entry's step waits for another: the lowest such step.
+    /// The entry's step waits for steps that are not done: the set of all of them, see [`steps`].
     Waits(u64),
     /// The record is never, or the marking lacks what it needs.
     NotApplied,
@@ -45,7 +46,7 @@ pub enum Refusal {
 }
 
 impl Refusal {
-    /// Of a number above 0 and the step that an answer's field `waiting` holds.
+    /// Of a number above 0 and the set that an answer's field `waiting` holds.
     pub fn new(number: u64, waiting: u64) -> Self {
         use Refusal::*;
         match number {
@@ -119,7 +120,7 @@ const TEXTS: [&str; 18] = [
     "the person does not hold this role",
     "the step does not have this role",
     "the step is not included",
-    "the step waits for another",
+    "the step waits for steps that are not done",
     "the record does not apply to the marking",
     "the lap is empty",
     "there is too little room",
@@ -128,10 +129,11 @@ const TEXTS: [&str; 18] = [
 impl fmt::Display for Refusal {
     fn fmt(&self, f: &mut fmt::Formatter<'_>) -> fmt::Result {
         write!(f, "refused: {} {}", self.number(), self.text())?;
-        match self {
-            Refusal::Waits(step) => write!(f, ", step {step}"),
-            _ => Ok(()),
+        if let Refusal::Waits(waiting) = *self {
+            write!(f, ", steps")?;
+            steps(waiting).try_for_each(|step| write!(f, " {step}"))?;
         }
+        Ok(())
     }
 }
 

@@ -37,6 +37,11 @@ impl Marking {
     }
 }
 
+/// The steps of a set, in ascending order.
+pub fn steps(set: u64) -> impl Iterator<Item = u64> {
+    (0..64).filter(move |step| set >> step & 1 == 1)
+}
+
 impl fmt::Debug for Marking {
     fn fmt(&self, f: &mut fmt::Formatter<'_>) -> fmt::Result {
         write!(f, "Ex {:x} Re {:x} In {:x}", self.done, self.due, self.included)

@@ -1,6 +1,6 @@
 //! Every call once or twice, against what the rules say of the sample job: 0 reboot, 1 order check, 2 publish.
 
-use ulzhartep::{apply, join, walk, Entry, Graph, Marking, Passed, Record, Refusal, Verdict, SHEET_BYTES};
+use ulzhartep::{apply, join, steps, walk, Entry, Graph, Marking, Passed, Record, Refusal, Verdict, SHEET_BYTES};
 
 const START: Marking = Marking::new(0, 0, 0b111);
 const REBOOTED: Marking = Marking::new(0b001, 0b010, 0b011);
@@ -29,11 +29,31 @@ fn rules() {
     assert_eq!(g.check(), Ok(()));
     assert_eq!(Graph::bare(65, 1, 1).check(), Err(Refusal::Counts));
     assert_eq!(g.take(START, REBOOT), Ok(REBOOTED));
-    assert_eq!(g.take(START, PUBLISH), Err(Refusal::Waits(1)));
+    assert_eq!(g.take(START, PUBLISH), Err(Refusal::Waits(0b010)));
     let mut kept = START;
-    assert_eq!(g.keep(&mut kept, PUBLISH), Err(Refusal::Waits(1)));
+    assert_eq!(g.keep(&mut kept, PUBLISH), Err(Refusal::Waits(0b010)));
     assert_eq!((g.keep(&mut kept, REBOOT), kept), (Ok(()), REBOOTED));
     assert_eq!((g.finished(START), g.finished(REBOOTED)), (Ok(true), Ok(false)));
+}
+
+/// Every call that can wait, where publishing waits for all three steps and then for all but the check.
+#[test]
+fn waiting() {
+    let mut g = job();
+    g.conditions[2] = 0b111;
+    let (all, two) = (Refusal::Waits(0b111), Refusal::Waits(0b101));
+    assert_eq!((g.take(START, PUBLISH), g.keep(&mut { START }, PUBLISH)), (Err(all), Err(all)));
+    let late = journal(&[CHECK, PUBLISH]);
+    let stopped = g.run(START, &late).expect_err("publish waits");
+    assert_eq!((stopped.refusal, stopped.entries), (two, 1));
+    let checked = g.fold(&late[..3]).expect("a journal");
+    assert_eq!(g.restore(&checked, &late[3..], START).map_err(|stopped| stopped.refusal), Err(two));
+    let lapped = |stem, lap| g.lap(START, stem, lap).map_err(|refused| (refused.refusal, refused.pass));
+    assert_eq!((lapped(&late, &late), lapped(&[], &late[3..])), (Err((two, 0)), Err((all, 1))));
+    let track = g.track_start(START).expect("a marking");
+    assert_eq!(g.track_step(track, PUBLISH), Err(all));
+    assert_eq!(steps(0b101).collect::<Vec<_>>(), [0, 2]);
+    assert_eq!((steps(0).count(), steps(u64::MAX).count()), (0, 64));
 }
 
 #[test]
@@ -88,7 +108,8 @@ fn numbers() {
     for number in 1..=19 {
         assert_eq!(Refusal::new(number, 3).number(), number);
     }
-    assert_eq!(Refusal::Waits(3).to_string(), "refused: 15 the step waits for another, step 3");
+    let text = "refused: 15 the step waits for steps that are not done, steps 1 3 7";
+    assert_eq!(Refusal::Waits(0b1000_1010).to_string(), text);
     assert_eq!(
         (Refusal::Room.text(), Refusal::Other(0).text()),
         ("there is too little room", "no number of this library")

@@ -1,11 +1,12 @@
-use super::Dice;
+use super::{crowds, Dice};
 use crate::data::{Entry, Graph, Marking};
 
-/// An entry, with the marking bent where needed, so that each answer comes up often whatever the graph is like.
-pub fn aimed(dice: &mut Dice, g: &Graph, m: &mut Marking) -> Entry {
+/// An entry, with the marking bent where needed, so that each answer comes up often whatever the graph is like. For a
+/// step that waits for nearly all the graph is bent too.
+pub fn aimed(dice: &mut Dice, g: &mut Graph, m: &mut Marking) -> Entry {
     let mut entry = fitting(dice, g);
     let this = 1u64.checked_shl(entry.step.into()).unwrap_or(0);
-    match dice.below(13) {
+    match dice.below(15) {
         0 => entry = known(dice, g),
         1 | 2 => make_unknown(dice, g, &mut entry),
         3 => entry.person = known(dice, g).person,
@@ -13,6 +14,7 @@ pub fn aimed(dice: &mut Dice, g: &Graph, m: &mut Marking) -> Entry {
         5 => entry.role = known(dice, g).role,
         6 => m.included &= !this,
         7..=9 => make_waiting(dice, g, m, entry),
+        10 | 11 => crowds::gather(dice, g, m, entry),
         _ => make_moved(dice, g, m, entry),
     }
     entry
@@ -51,7 +53,7 @@ pub fn make_unknown(dice: &mut Dice, g: &Graph, entry: &mut Entry) {
 }
 
 /// Includes the step, and one of its conditions, if it has any, that is then not done. Half of the time it is the only one that
-/// is waited for, so that every step comes up as the lowest.
+/// is waited for, so that every step comes up alone.
 pub fn make_waiting(dice: &mut Dice, g: &Graph, m: &mut Marking, entry: Entry) {
     if dice.one_in(2) {
         make_moved(dice, g, m, entry);

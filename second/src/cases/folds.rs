@@ -1,6 +1,6 @@
 //! Journals to fold, whole and in parts, and records to restore from.
 
-use super::{harm, journals, lively_job, records, Dice};
+use super::{harm, journals, records, Dice};
 use crate::data::{Bytes, Graph, Marking};
 use crate::peer;
 
@@ -17,10 +17,7 @@ pub struct Fold {
 }
 
 pub fn make(dice: &mut Dice) -> Fold {
-    let (mut graph, mut marking) = lively_job(dice);
-    let entries = journals::length(dice);
-    let mut journal = Vec::new();
-    journals::write(dice, &graph, marking, entries, &mut journal);
+    let (mut graph, mut marking, mut journal) = journals::whole(dice);
     let entries = journal.len() / 3;
     let (cuts, recorded) = (cuts(dice, entries), dice.below(entries + 1));
     let record = record(dice, &graph, &journal[..3 * recorded]);

@@ -1,6 +1,7 @@
 //! Jobs as files: a sheet with journals, a marking and a record that go with it.
 
 use super::{
+    crowds::{self, Crowd},
     entries::fitting,
     graphs, journals, markings, records,
     sheets::{damaged, whole, written},
@@ -21,7 +22,8 @@ pub struct Job {
 }
 
 /// The first is the sample job with a record that applies everywhere, the second has all 12,288 arrows, the third a journal of
-/// full length; the others are of any kind, and a quarter of them has a damaged sheet.
+/// full length; the others are of any kind, one in six with a step that most often waits for many, and a quarter of them has a
+/// damaged sheet.
 pub fn make(dice: &mut Dice, index: u64) -> Job {
     match index {
         0 => {
@@ -34,8 +36,11 @@ pub fn make(dice: &mut Dice, index: u64) -> Job {
         }
         2 => long(dice),
         _ => {
-            let (graph, marking) = any(dice);
             let faults = dice.pick(&[0, 0, 0, 0, 0, 0, 1, 2]);
+            if dice.one_in(6) {
+                return crowded(dice, faults);
+            }
+            let (graph, marking) = any(dice);
             of_graph(dice, &graph, marking, faults)
         }
     }
@@ -74,6 +79,14 @@ fn long(dice: &mut Dice) -> Job {
     let mut job = of_graph(dice, &graph, marking, 0);
     job.journals[0] = journal.0;
     job
+}
+
+/// No entry, the one that waits, others before it, and those alone.
+fn crowded(dice: &mut Dice, faults: usize) -> Job {
+    let Crowd { graph, marking, before, waits } = crowds::make(dice);
+    let (job, mut alone) = (of_graph(dice, &graph, marking, faults), Vec::new());
+    push(&mut alone, waits);
+    Job { journals: [Vec::new(), alone.clone(), [before.clone(), alone].concat(), before], ..job }
 }
 
 fn of_graph(dice: &mut Dice, g: &Graph, start: Marking, faults: usize) -> Job {

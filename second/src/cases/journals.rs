@@ -1,6 +1,7 @@
 //! Journals of every length, on graphs of every size: allowed throughout, refused early or late, garbage, and of bad length.
 
 use super::{
+    crowds,
     entries::{fitting, known},
     harm, lively_job,
     walks::{push, refused, walk},
@@ -21,10 +22,7 @@ pub struct Journal {
 }
 
 pub fn make(dice: &mut Dice) -> Journal {
-    let (mut graph, mut marking) = lively_job(dice);
-    let entries = length(dice);
-    let mut journal = Vec::new();
-    write(dice, &graph, marking, entries, &mut journal);
+    let (mut graph, mut marking, mut journal) = whole(dice);
     if dice.one_in(8) {
         spoil_length(dice, &mut journal);
     }
@@ -33,6 +31,17 @@ pub fn make(dice: &mut Dice) -> Journal {
     }
     let place = place(dice, journal.len() as u64 / 3);
     Journal { graph, marking, journal: Bytes(journal), place }
+}
+
+/// A job and a journal of it, undamaged.
+pub fn whole(dice: &mut Dice) -> (Graph, Marking, Vec<u8>) {
+    if dice.one_in(5) {
+        return crowds::journal(dice);
+    }
+    let (graph, marking) = lively_job(dice);
+    let (entries, mut journal) = (length(dice), Vec::new());
+    write(dice, &graph, marking, entries, &mut journal);
+    (graph, marking, journal)
 }
 
 /// Of full length: half of them run through, the others have one entry that is most often refused, at any place.

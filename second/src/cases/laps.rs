@@ -1,6 +1,7 @@
 //! A stem and a lap: allowed for ever, or refused in the stem, in the first lap or only in the second.
 
 use super::{
+    crowds::{self, Crowd},
     entries::fitting,
     harm,
     journals::{spoil_length, write, FULL},
@@ -19,8 +20,7 @@ pub struct Lap {
 }
 
 pub fn make(dice: &mut Dice) -> Lap {
-    let (mut graph, mut marking) = lively_job(dice);
-    let (mut stem, mut lap) = journals(dice, &graph, marking);
+    let Lap { mut graph, mut marking, stem: Bytes(mut stem), lap: Bytes(mut lap) } = whole(dice);
     if dice.one_in(20) {
         let one = if dice.one_in(2) { &mut stem } else { &mut lap };
         spoil_length(dice, one);
@@ -31,6 +31,31 @@ pub fn make(dice: &mut Dice) -> Lap {
     if dice.one_in(4) {
         harm(dice, &mut graph, &mut marking);
     }
+    Lap { graph, marking, stem: Bytes(stem), lap: Bytes(lap) }
+}
+
+fn whole(dice: &mut Dice) -> Lap {
+    if dice.one_in(5) {
+        return crowded(dice);
+    }
+    let (graph, marking) = lively_job(dice);
+    let (stem, lap) = journals(dice, &graph, marking);
+    Lap { graph, marking, stem: Bytes(stem), lap: Bytes(lap) }
+}
+
+/// A step waits, most often for many: in the stem, behind what passes in the lap, or in a lap of its own, that may pass once.
+fn crowded(dice: &mut Dice) -> Lap {
+    let Crowd { graph, marking, before, waits } = crowds::make(dice);
+    let mut alone = Vec::new();
+    push(&mut alone, waits);
+    let (stem, lap) = match dice.below(3) {
+        0 => ([before, alone.clone()].concat(), alone),
+        1 => {
+            let (stem, in_lap) = before.split_at(3 * dice.below(before.len() / 3 + 1));
+            (stem.to_vec(), [in_lap, &alone].concat())
+        }
+        _ => (Vec::new(), alone),
+    };
     Lap { graph, marking, stem: Bytes(stem), lap: Bytes(lap) }
 }
 

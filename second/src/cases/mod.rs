@@ -1,5 +1,6 @@
 //! Makes the inputs of the comparison: graphs of every size, whole and damaged, with a marking and an entry for each.
 
+mod crowds;
 mod damage;
 mod dice;
 mod entries;
@@ -36,7 +37,7 @@ pub struct Case {
 /// order is tried.
 pub fn make(dice: &mut Dice) -> Case {
     let (mut graph, mut marking) = job(dice);
-    let entry = entries::aimed(dice, &graph, &mut marking);
+    let entry = entries::aimed(dice, &mut graph, &mut marking);
     harm(dice, &mut graph, &mut marking);
     Case { graph, marking, entry }
 }

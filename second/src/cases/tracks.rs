@@ -15,7 +15,7 @@ pub struct Track {
 
 pub fn make(dice: &mut Dice) -> Track {
     let (mut graph, mut marking) = if dice.one_in(4) { job(dice) } else { lively_job(dice) };
-    let entry = entries::aimed(dice, &graph, &mut marking);
+    let entry = entries::aimed(dice, &mut graph, &mut marking);
     let moves = moves(dice, &graph, marking);
     let (rank, flag) = (rank(dice, graph.steps), dice.pick(&[0, 1, 1, 2, 255, 256, 1 << 32, u64::MAX]));
     if dice.one_in(3) {

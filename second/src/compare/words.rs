@@ -6,18 +6,31 @@ use second::data::{Ran, Tracked};
 /// and its multiples.
 pub type Kind = (u64, &'static str);
 
-/// By its number, and whether it came at the first entry or a later one.
-pub fn by_lateness(ran: Ran) -> u64 {
-    ran.number + 256 * u64::from(ran.entries > 0)
+/// By its number, and by how many steps are waited for: with 15 there are such, and with any other number there are none, or it is
+/// no answer of any call.
+pub fn by_crowd(number: u64, waiting: u64) -> u64 {
+    let crowd = match waiting.count_ones() {
+        0 => 0,
+        1 => ONE,
+        2..=62 => SOME,
+        _ => MOST,
+    };
+    number + crowd
 }
 
-/// By its number, and when answered by the flag.
+const ONE: u64 = 1024;
+const SOME: u64 = 2 * ONE;
+const MOST: u64 = 3 * ONE;
+
+/// The same, and whether it came at the first entry or a later one.
+pub fn by_lateness(ran: Ran) -> u64 {
+    by_crowd(ran.number, ran.waiting) + 256 * u64::from(ran.entries > 0)
+}
+
+/// The same, and when answered by the flag.
 pub fn by_flag(tracked: Tracked) -> u64 {
-    if tracked.number == 0 {
-        256 * tracked.track.flag
-    } else {
-        tracked.number
-    }
+    let flag = if tracked.number == 0 { tracked.track.flag } else { 0 };
+    by_crowd(tracked.number, tracked.waiting) + 256 * flag
 }
 
 pub const FLAGS: &[Kind] = &[(0, "flag down"), (256, "flag up")];
@@ -39,10 +52,12 @@ const UNKNOWN: Kind = (11, "unknown person, step or role");
 const NOT_HELD: Kind = (12, "person does not hold the role");
 const NOT_ON_STEP: Kind = (13, "step does not have the role");
 const EXCLUDED: Kind = (14, "step not included");
-const WAITS: Kind = (15, "step waits");
+pub const WAITS_FOR_ONE: Kind = (ONE + 15, "step waits for one");
+pub const WAITS_FOR_SOME: Kind = (SOME + 15, "step waits for 2 to 62");
+pub const WAITS_FOR_MOST: Kind = (MOST + 15, "step waits for 63 or 64");
 
 /// Of a single entry.
-pub const ENTRY: &[Kind] = &[UNKNOWN, NOT_HELD, NOT_ON_STEP, EXCLUDED, WAITS];
+pub const ENTRY: &[Kind] = &[UNKNOWN, NOT_HELD, NOT_ON_STEP, EXCLUDED, WAITS_FOR_ONE, WAITS_FOR_SOME, WAITS_FOR_MOST];
 
 /// Of the entries of a journal, by lateness.
 pub const ENTRIES: &[Kind] = &[
@@ -54,8 +69,12 @@ pub const ENTRIES: &[Kind] = &[
     later(NOT_ON_STEP),
     EXCLUDED,
     later(EXCLUDED),
-    WAITS,
-    later(WAITS),
+    WAITS_FOR_ONE,
+    later(WAITS_FOR_ONE),
+    WAITS_FOR_SOME,
+    later(WAITS_FOR_SOME),
+    WAITS_FOR_MOST,
+    later(WAITS_FOR_MOST),
 ];
 
 /// The same number, at a later entry.

@@ -1,7 +1,7 @@
-use super::{check::refused, lowest, targets, Graph, Marking, Set};
+use super::{check::refused, graph::stored, lowest, targets, Graph, Marking, Set};
 use crate::data::{self, Entry, Kept, Moved};
 
-/// Why an entry is not allowed: its number, and with 15 the lowest waiting condition.
+/// Why an entry is not allowed: its number, and with 15 every step that it waits for, as a stored set.
 pub struct Refusal {
     pub number: u64,
     pub waiting: u64,
@@ -39,10 +39,10 @@ pub fn enter(g: &Graph, m: &Marking, entry: Entry) -> Result<Marking, Refusal> {
         (14, !m.included.contains(&step)),
         (15, !waits_for.is_empty()),
     ];
-    match (lowest(&numbers), waits_for.first()) {
-        (0, _) => Ok(after(g, m, step)),
-        (15, Some(&waiting)) => Err(Refusal { number: 15, waiting }),
-        (number, _) => Err(Refusal { number, waiting: 0 }),
+    match lowest(&numbers) {
+        0 => Ok(after(g, m, step)),
+        15 => Err(Refusal { number: 15, waiting: stored(&waits_for) }),
+        number => Err(Refusal { number, waiting: 0 }),
     }
 }
 

@@ -14,8 +14,8 @@ pub enum Refusal {
     NotHeld,
     NotOnStep,
     Excluded,
-    /// With the lowest waiting condition.
-    Waits(u8),
+    /// With the set of all that is waited for.
+    Waits(u64),
     NotApplied,
     EmptyLap,
     Room,
@@ -49,7 +49,7 @@ impl Refusal {
     #[inline]
     pub fn waiting(self) -> u64 {
         match self {
-            Refusal::Waits(step) => step.into(),
+            Refusal::Waits(steps) => steps,
             _ => 0,
         }
     }

@@ -45,7 +45,7 @@ pub fn enter(g: &Graph, m: Marking, e: Entry) -> Result<Marking, Refusal> {
     }
     let waiting = g.conditions[step] & included & !done;
     if waiting != 0 {
-        return Err(Refusal::Waits(waiting.trailing_zeros() as u8));
+        return Err(Refusal::Waits(waiting));
     }
     Ok(Marking {
         done: done | this,

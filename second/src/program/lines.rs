@@ -49,11 +49,11 @@ impl Lines {
         }
     }
 
-    /// The entry that was refused with this number, and the step that it waits for where that is the reason.
+    /// The entry that was refused with this number, and every step that it waits for where that is the reason.
     pub fn refused_entry(self, index: u64, entry: Entry, number: u64, waiting: u64) -> Self {
         let lines = self.say(format_args!("entry {index}"), words_of(entry));
         if number == 15 {
-            return lines.say("waits for", waiting);
+            return lines.say("waits for", set(&members(waiting)));
         }
         lines
     }

@@ -14,7 +14,7 @@ const WORDS: [&str; 18] = [
     "the person does not hold this role",
     "the step does not have this role",
     "the step is not included",
-    "the step waits for another",
+    "the step waits for steps that are not done",
     "the record does not apply to the marking",
     "the lap is empty",
     "there is too little room",

@@ -1,6 +1,6 @@
-use super::{answers, ran, written, Both};
+use super::{answers, crowd, ran, written, Both};
 use crate::cases::{journals, Dice};
-use crate::data::{Entry, Ran, Walked};
+use crate::data::{Entry, Marking, Ran, Walked};
 use crate::sample::{self, CHECK, CHECKED, PUBLISH, REBOOT, REBOOTED, START};
 use crate::{model, peer};
 use std::collections::BTreeSet;
@@ -10,10 +10,24 @@ fn samples_1_to_4_as_journals() {
     let job = Both::new(sample::graph());
     let run = |entries: &[Entry]| job.run(START, &written(entries));
     assert_eq!(run(&[]), ran(0, START));
-    assert_eq!(run(&[PUBLISH]), Ran { number: 15, waiting: 1, entries: 0, marking: START }, "S1");
+    assert_eq!(run(&[PUBLISH]), Ran { number: 15, waiting: 0b010, entries: 0, marking: START }, "S1");
     assert_eq!(run(&[REBOOT]), ran(1, REBOOTED), "S2");
     assert_eq!(run(&[REBOOT, PUBLISH, CHECK]), Ran { number: 14, waiting: 0, entries: 1, marking: REBOOTED }, "S3");
     assert_eq!(run(&[REBOOT, CHECK]), ran(2, CHECKED), "S4");
+}
+
+/// Of what is done, excluded and included since the start.
+#[test]
+fn a_run_waits_by_the_marking_before_the_entry() {
+    let mut g = sample::graph();
+    g.conditions[2] = 0b111;
+    (g.includes[1], g.excludes[1]) = (0b100, 0b001);
+    let job = Both::new(g);
+    let run = |start, entries: &[Entry]| job.run(start, &written(entries));
+    assert_eq!(run(START, &[PUBLISH]), Ran { number: 15, waiting: 0b111, entries: 0, marking: START });
+    let waits = Ran { number: 15, waiting: 0b100, entries: 1, marking: Marking::new(0b010, 0, 0b110) };
+    assert_eq!(run(START, &[CHECK, PUBLISH]), waits, "0 is excluded, 1 is done");
+    assert_eq!(run(Marking::new(0, 0, 0b010), &[CHECK, PUBLISH]), waits, "2 is included");
 }
 
 #[test]
@@ -46,7 +60,12 @@ fn the_bodies_agree_and_every_number_comes_up() {
     let mut came = BTreeSet::new();
     for case in 0..2_000 {
         let case = journals::make(&mut Dice::new(8, case));
-        came.insert(("run", Both::new(case.graph).run(case.marking, &case.journal).number));
+        let Ran { number, waiting, entries, .. } = Both::new(case.graph).run(case.marking, &case.journal);
+        let at = if entries == 0 { "waits at once" } else { "waits later" };
+        came.extend([("run", number), (at, crowd(waiting))]);
     }
-    assert_eq!(came, answers("run", &[0, 2, 4, 6, 7, 8, 11, 12, 13, 14, 15]));
+    let mut all = answers("run", &[0, 2, 4, 6, 7, 8, 11, 12, 13, 14, 15]);
+    all.append(&mut answers("waits at once", &[0, 1, 2, 63]));
+    all.append(&mut answers("waits later", &[0, 1, 2, 63]));
+    assert_eq!(came, all);
 }

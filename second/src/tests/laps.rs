@@ -1,4 +1,4 @@
-use super::{answers, written, Both};
+use super::{answers, crowd, written, Both};
 use crate::cases::{laps, Dice};
 use crate::data::{Graph, Lapped, Marking, ACCEPTED, STARVED};
 use crate::sample::{self, CHECK, PUBLISH, REBOOT, START};
@@ -28,8 +28,8 @@ fn refused_by_pass() {
     assert_eq!(job.lap(START, &[], &late), refused(14, 1, 1), "in the first lap");
     let publish_then_reboot = written(&[PUBLISH, REBOOT]);
     assert_eq!(job.lap(START, &written(&[CHECK]), &publish_then_reboot), refused(14, 0, 2), "in the second");
-    let waits = Lapped { waiting: 1, ..refused(15, 0, 1) };
-    assert_eq!(job.lap(START, &[], &publish_then_reboot), waits, "with the waiting step");
+    let waits = Lapped { waiting: 0b010, ..refused(15, 0, 1) };
+    assert_eq!(job.lap(START, &[], &publish_then_reboot), waits, "with what is waited for");
     assert_eq!(job.lap(START, &late, &[]), refused(17, 0, 0), "an empty lap comes before any entry");
     assert_eq!(job.lap(START, &late, &[0]), refused(7, 0, 0));
 }
@@ -59,11 +59,15 @@ fn the_bodies_agree_and_every_number_comes_up() {
     let mut came = BTreeSet::new();
     for case in 0..3_000 {
         let laps::Lap { graph, marking, stem, lap } = laps::make(&mut Dice::new(11, case));
-        let Lapped { number, verdict, pass, .. } = Both::new(graph).lap(marking, &stem, &lap);
+        let Lapped { number, waiting, verdict, pass, .. } = Both::new(graph).lap(marking, &stem, &lap);
         came.extend([("number", number), ("verdict", verdict), ("pass", pass)]);
+        came.insert((["waits, stem", "waits, first", "waits, second"][pass as usize], crowd(waiting)));
     }
     let mut all = answers("number", &[0, 2, 4, 6, 7, 8, 17, 11, 12, 13, 14, 15]);
     all.append(&mut answers("verdict", &[0, ACCEPTED, STARVED]));
+    for pass in ["waits, stem", "waits, first", "waits, second"] {
+        all.append(&mut answers(pass, &[0, 1, 2, 63]));
+    }
     // A lap that is allowed twice is allowed for ever.
     all.append(&mut answers("pass", &[0, 1, 2]));
     assert_eq!(came, all);

@@ -20,6 +20,15 @@ fn answers(call: &'static str, numbers: &[u64]) -> BTreeSet<(&'static str, u64)>
     numbers.iter().map(|number| (call, *number)).collect()
 }
 
+/// How many steps are waited for: none, one, some as 2, or nearly all as 63.
+fn crowd(waiting: u64) -> u64 {
+    match waiting.count_ones() {
+        few @ 0..2 => few.into(),
+        2..63 => 2,
+        _ => 63,
+    }
+}
+
 /// The bytes of these entries.
 fn written(entries: &[Entry]) -> Vec<u8> {
     entries.iter().flat_map(|e| [e.person, e.step, e.role]).collect()

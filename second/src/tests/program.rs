@@ -1,9 +1,9 @@
 use super::written;
-use crate::cases::{jobs, Dice};
+use crate::cases::{jobs, sheets, Dice};
 use crate::data::Entry;
 use crate::model;
 use crate::program::{because, call, Told};
-use crate::sample::{CHECK, PUBLISH, REBOOT};
+use crate::sample::{self, CHECK, PUBLISH, REBOOT, START};
 use std::ffi::OsString;
 use std::fs;
 use std::path::PathBuf;
@@ -78,6 +78,29 @@ fn the_accident() {
     folder.told("lap job.sheet check reboot", 0, &["verdict: starved", "starved step: 1"]);
     let pass = [&excluded[..], &["pass: 1, first lap", "entry 1: person 1, step 2, role 1"]].concat();
     folder.told("lap job.sheet check late", 1, &pass);
+}
+
+#[test]
+fn every_step_that_is_waited_for_is_named() {
+    let folder = Folder::new("waits");
+    let mut wide = sample::graph();
+    wide.conditions[2] = 0b111;
+    folder.put("wide.sheet", &sheets::written(&wide, START));
+    folder.put("publish", &written(&[PUBLISH]));
+    let refused = ["refused: 15 the step waits for steps that are not done", "file: publish"];
+    let (expected, entry) = ("expected: done before step 2", "entry 0: person 1, step 2, role 1");
+    let [all, two] = ["0 1 2", "0 2"].map(|steps| format!("found: steps {steps}, included and not done"));
+    let at_start = [&refused[..], &[&all, expected, entry, "waits for: 0 1 2"]].concat();
+    let start = ["done: none", "due: none", "included: 0 1 2"];
+    folder.told("run wide.sheet publish", 1, &[&at_start[..], &start].concat());
+    folder.told("may wide.sheet publish", 1, &[&at_start[..], &start].concat());
+    let tracked = [&["start: rank 1, flag up"], &at_start[..], &["rank: 1", "flag: up"], &start].concat();
+    folder.told("track wide.sheet publish", 1, &tracked);
+    let in_lap = [&two, expected, "pass: 1, first lap", entry, "waits for: 0 2"];
+    folder.told("lap wide.sheet check publish", 1, &[&refused[..], &in_lap].concat());
+    assert_eq!(folder.call("fold wide.sheet check record").status, 0);
+    let restored = [&two, expected, entry, "waits for: 0 2", "done: 1", "due: none", "included: 0 1 2"];
+    folder.told("restore wide.sheet record publish", 1, &[&refused[..], &restored].concat());
 }
 
 #[test]

@@ -1,4 +1,4 @@
-use super::{alike, answers, filled, ran, written, Both};
+use super::{alike, answers, crowd, filled, ran, written, Both};
 use crate::cases::{folds, records, Dice};
 use crate::data::{Entry, Marking, Moved, Ran, Record};
 use crate::sample::{self, CHECK, PUBLISH, REBOOT, REBOOTED, START};
@@ -85,11 +85,13 @@ fn the_bodies_agree_and_every_number_comes_up() {
         let folds::Fold { graph, marking, journal, record, .. } = folds::make(&mut Dice::new(9, case));
         let job = Both::new(graph);
         came.insert(("fold", job.fold(&journal).err().unwrap_or(0)));
-        came.insert(("restore", job.restore(&record, &journal, marking).number));
+        let restored = job.restore(&record, &journal, marking);
+        came.extend([("restore", restored.number), ("waits", crowd(restored.waiting))]);
     }
     let mut all = answers("join", &[0, 2, 10]);
     all.append(&mut answers("apply", &[0, 2, 8, 10, 16]));
     all.append(&mut answers("fold", &[0, 2, 4, 6, 7]));
     all.append(&mut answers("restore", &[0, 2, 4, 6, 7, 8, 10, 16, 11, 12, 13, 14, 15]));
+    all.append(&mut answers("waits", &[0, 1, 2, 63]));
     assert_eq!(came, all);
 }

@@ -1,6 +1,7 @@
-use super::{answers, Both};
+use super::{answers, crowd, Both};
 use crate::cases::{self, Case, Dice};
 use crate::data::{Entry, Graph, Marking, Moved};
+use crate::model::members;
 use crate::sample::{self, CHECK, CHECKED, PUBLISH, REBOOT, REBOOTED, START};
 use std::collections::BTreeSet;
 
@@ -12,12 +13,17 @@ const fn refused(number: u64, marking: Marking) -> Moved {
     Moved { number, waiting: 0, marking }
 }
 
+/// Refused with 15: these steps are waited for.
+const fn waits(waiting: u64, marking: Marking) -> Moved {
+    Moved { number: 15, waiting, marking }
+}
+
 #[test]
 fn samples_1_to_7() {
     let job = Both::new(sample::graph());
     let entry = |person, step, role| Entry { person, step, role };
     assert_eq!(job.check(), 0);
-    assert_eq!(job.take(START, PUBLISH), Moved { number: 15, waiting: 1, marking: START }, "S1");
+    assert_eq!(job.take(START, PUBLISH), waits(0b010, START), "S1");
     assert_eq!(job.take(START, REBOOT), moved(REBOOTED), "S2");
     assert_eq!(job.finished(REBOOTED).finished, 0, "S2");
     assert_eq!(job.take(REBOOTED, PUBLISH), refused(14, REBOOTED), "S3");
@@ -66,9 +72,38 @@ fn due_is_kept_when_excluded() {
 fn conditions_are_read_before_the_move() {
     let (mut g, open) = (lone(), Marking::new(0, 0, 1));
     g.conditions[0] = 1;
-    assert_eq!(Both::new(g.clone()).take(open, LONE), refused(15, open), "waits for itself");
+    assert_eq!(Both::new(g.clone()).take(open, LONE), waits(1, open), "waits for itself");
     g.excludes[0] = 1;
     assert_eq!(Both::new(g).take(Marking::new(1, 0, 1), LONE), moved(Marking::new(1, 0, 0)), "excludes itself");
+}
+
+#[test]
+fn every_step_that_is_waited_for() {
+    let mut g = Graph::bare(64, 1, 1);
+    (g.allows[5], g.holds[0], g.conditions[5]) = (1, 1, u64::MAX);
+    let (job, entry) = (Both::new(g), Entry { person: 0, step: 5, role: 0 });
+    let waits_for = |waiting, m| assert_eq!(job.take(m, entry), waits(waiting, m));
+    waits_for(u64::MAX, Marking::new(0, 0, u64::MAX));
+    waits_for(u64::MAX << 1, Marking::new(1, 1, u64::MAX));
+    waits_for(u64::MAX >> 1, Marking::new(0, 0, u64::MAX >> 1));
+    waits_for(1 << 63 | 1 << 5, Marking::new(!(1 << 63 | 1 << 5), 0, u64::MAX));
+    waits_for(1 << 5, Marking::new(0, 0, 1 << 5));
+}
+
+/// Nothing is missing in the set, and nothing is too much.
+#[test]
+fn what_is_waited_for_opens_the_step() {
+    for case in 0..500 {
+        let Case { graph, marking, entry } = cases::make(&mut Dice::new(14, case));
+        let job = Both::new(graph);
+        let moved = job.take(marking, entry);
+        assert_eq!(moved.waiting != 0, moved.number == 15);
+        for step in members(moved.waiting) {
+            let but_one = Marking { done: marking.done | moved.waiting & !(1 << step), ..marking };
+            assert_eq!(job.take(but_one, entry), waits(1 << step, but_one));
+            assert_eq!(job.take(Marking { done: but_one.done | 1 << step, ..marking }, entry).number, 0);
+        }
+    }
 }
 
 #[test]
@@ -78,12 +113,14 @@ fn the_bodies_agree_and_every_number_comes_up() {
         let Case { graph, marking, entry } = cases::make(&mut Dice::new(7, case));
         let job = Both::new(graph);
         came.insert(("check", job.check()));
-        came.insert(("take", job.take(marking, entry).number));
+        let moved = job.take(marking, entry);
+        came.extend([("take", moved.number), ("waits", crowd(moved.waiting))]);
         came.insert(("finished", job.finished(marking).number));
         came.insert(("finished?", job.finished(marking).finished));
     }
     let mut all = answers("check", &[0, 2, 4, 6]);
     all.append(&mut answers("take", &[0, 2, 4, 6, 8, 11, 12, 13, 14, 15]));
+    all.append(&mut answers("waits", &[0, 1, 2, 63]));
     all.append(&mut answers("finished", &[0, 2, 4, 6, 8]));
     all.append(&mut answers("finished?", &[0, 1]));
     assert_eq!(came, all);

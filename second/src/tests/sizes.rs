@@ -45,7 +45,7 @@ fn ranks_and_flags() {
         assert_eq!(job.track_idle(track).track, Track { flag: 1, ..track }, "{flag}");
         assert_eq!(job.track_step(track, REBOOT).track.flag, 0, "{flag}");
         let refused = job.track_step(track, sample::PUBLISH);
-        assert_eq!((refused.number, refused.waiting, refused.track), (15, 1, track), "{flag}");
+        assert_eq!((refused.number, refused.waiting, refused.track), (15, 0b010, track), "{flag}");
     }
 }
 

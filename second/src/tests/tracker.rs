@@ -1,4 +1,4 @@
-use super::{answers, Both};
+use super::{answers, crowd, Both};
 use crate::cases::{tracks, Dice};
 use crate::data::{Entry, Graph, Marking, Track};
 use crate::sample::{self, CHECK, CHECKED, REBOOT, REBOOTED, START};
@@ -81,7 +81,7 @@ fn the_bodies_agree_and_every_number_comes_up() {
         came.insert(("start", job.track_start(track.marking).number));
         came.insert(("idle", job.track_idle(track).number));
         let next = job.track_step(track, entry);
-        came.insert(("step", next.number));
+        came.extend([("step", next.number), ("waits", crowd(next.waiting))]);
         if next.number == 0 {
             assert_eq!(next.track, printed(track.marking, next.track.marking, track.rank, entry.step));
         }
@@ -89,6 +89,7 @@ fn the_bodies_agree_and_every_number_comes_up() {
     let mut all = answers("start", &[0, 2, 4, 6, 8]);
     all.append(&mut answers("idle", &[0, 2, 4, 6, 8, 9]));
     all.append(&mut answers("step", &[0, 2, 4, 6, 8, 9, 11, 12, 13, 14, 15]));
+    all.append(&mut answers("waits", &[0, 1, 2, 63]));
     assert_eq!(came, all);
 }
 

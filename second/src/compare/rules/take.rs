@@ -2,7 +2,7 @@ use super::Input;
 use crate::border;
 use crate::floor::{Call, Table};
 use crate::seen::Seen;
-use crate::words::{ENTRY, GRAPH, OUTSIDE};
+use crate::words::{by_crowd, ENTRY, GRAPH, OUTSIDE};
 use second::cases::Case;
 use second::{model, peer};
 
@@ -15,7 +15,7 @@ pub const fn table(name: &'static str) -> Table {
 fn run(input: &Input) -> Seen {
     let &Case { ref graph, marking, entry } = &input.case;
     let right = model::take(&input.graph, marking, entry);
-    let mut seen = Seen::new(right.number);
+    let mut seen = Seen::new(by_crowd(right.number, right.waiting));
     seen.ask(graph, &right, |g| border::take(g, marking, entry), |g| peer::take(g, marking, entry));
     seen
 }
