@@ -1,6 +1,7 @@
 //! `bench`: one line per call: name, nanoseconds ours, nanoseconds peer, ratio. Each is the least of many rounds in which the
 //! two take turns, on the same inputs and with the same answers.
 
+mod count;
 mod inputs;
 mod journals;
 mod laps;

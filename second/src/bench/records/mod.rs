@@ -6,12 +6,16 @@ mod restore;
 mod threads;
 mod write;
 
+use crate::count;
 use crate::inputs::{job, Job};
 use second::peer;
 
 pub fn run() {
     fold::run();
-    threads::run();
+    // How often a thread that waits goes round is never the same.
+    if !count::ASKED {
+        threads::run();
+    }
     join::run();
     apply::run();
     read::run();
