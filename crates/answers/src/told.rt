@@ -83,7 +83,7 @@ pub fn moved(o: Move) -> Moved
             waiting: 0,
             marking: next,
         },
-        Move::Refused(r, m) => {
+        Move::Refused(m, r) => {
             let w = said(r);
             Moved {
                 number: w.number,

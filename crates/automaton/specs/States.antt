@@ -143,7 +143,7 @@ unfolding numberOfTracked trackedOf numberOfVerdict
 tracked-number Verdict.Clear before next = refl
 tracked-number (Verdict.Refused r) before next = either (leb 11 (numberOf r))
   where
-    either : (b : Bool) → numberOfTracked (cond b (Tracked.Stays r before) (Tracked.Refused r)) ≡ numberOf r
+    either : (b : Bool) → numberOfTracked (cond b (Tracked.Stays before r) (Tracked.Refused r)) ≡ numberOf r
     either true = refl
     either false = refl
 
@@ -164,7 +164,7 @@ refused-waits : (r : Refusal) (before next : Track) → waitingOfTracked (tracke
 unfolding waitingOfTracked trackedOf
 refused-waits r before next = either (leb 11 (numberOf r))
   where
-    either : (b : Bool) → waitingOfTracked (cond b (Tracked.Stays r before) (Tracked.Refused r)) ≡ waitingOf r
+    either : (b : Bool) → waitingOfTracked (cond b (Tracked.Stays before r) (Tracked.Refused r)) ≡ waitingOf r
     either true = refl
     either false = refl
 

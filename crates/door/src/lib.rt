@@ -58,7 +58,7 @@ pub extern "C" fn ulz_take(g: &Job, m: Marking, e: Entry) -> Moved
 {
     let v = rules::check(g);
     if let Verdict::Refused(r) = v {
-        return told::moved(Move::Refused(r, NONE));
+        return told::moved(Move::Refused(NONE, r));
     }
     let o = rules::inner::take_on(g, m, e);
     told::moved(o)

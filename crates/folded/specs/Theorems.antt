@@ -57,7 +57,7 @@ passes-end g m k (e ∷ es) = go (entryMove g m e) (λ next. passes-end g next (
     go : (o : Move) → ((next : Marking) → endOfAll g next es ≡ endOf (runOn g next (k + 1) es))
         → bind (movedTo o) (λ next. endOfAll g next es) ≡ endOf (goOn k m o (λ next. runOn g next (k + 1) es))
     go (Move.Moved next) rest = rest next
-    go (Move.Refused r back) rest = refl
+    go (Move.Refused back r) rest = refl
 
 -- what a journal that folds shows
 pub record Folding (g : Graph) (j : List ℕ) (r : Record) : Type 0 where

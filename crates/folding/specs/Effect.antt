@@ -26,7 +26,7 @@ effect g (e ∷ rest) = compose (stepRecord (rowMet g e) (e .step .0)) (effect g
 -- the marking after an allowed entry
 unfoldable pub movedTo : Move → Option Marking
 movedTo (Move.Moved next) = some next
-movedTo (Move.Refused r back) = none
+movedTo (Move.Refused back r) = none
 
 -- the end marking, if every entry is allowed
 unfoldable pub endOfAll : Graph → Marking → List Entry → Option Marking

@@ -333,4 +333,4 @@ passes-after g (e ∷ es) m x p = go (entryMove g m e) refl (passes-after g es) 
         → x ≡ afterAll g (after (rowMet g e) m (e .step .0)) es
     go (Move.Moved next) q rest p = rest next x p
         ∙ ap (λ (n : Marking). afterAll g n es) (moved-is (first (entryLines g m e)) m (after (rowMet g e) m (e .step .0)) next q)
-    go (Move.Refused r back) q rest p = absurd (Option·none-ne-some x p)
+    go (Move.Refused back r) q rest p = absurd (Option·none-ne-some x p)

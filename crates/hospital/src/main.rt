@@ -48,7 +48,7 @@ fn act(g: &Job, m: Marking, s: u8) -> Marking {
             say_marking(g, next);
             next
         }
-        Move::Refused(_, before) => {
+        Move::Refused(before, _) => {
             say(b": refused\n");
             before
         }
@@ -100,7 +100,7 @@ fn track(g: &Job, t: Track, s: u8) -> Track {
             say_track(next);
             next
         }
-        Tracked::Stays(_, before) => {
+        Tracked::Stays(before, _) => {
             say(b": refused\n");
             before
         }

@@ -65,7 +65,7 @@ allowed-moved g m e ok =
     ap (λ (v : Verdict). moveOf v m (after (rowOf g (e .person) (e .step .0)) m (e .step .0))) (nothing-clear (entryLines g m e) ok)
 
 pub refused-moved : (g : Graph) (m : Marking) (e : Entry) → isAllowed g m e ≡ false → (r : Refusal) × (back : Marking)
-    × (entryMove g m e ≡ Move.Refused r back)
+    × (entryMove g m e ≡ Move.Refused back r)
 unfolding entryMove moveOf
 refused-moved g m e out =
     let f = something-refused (entryLines g m e) out in

@@ -34,4 +34,4 @@ run-from g m k (e ∷ rest) clear i =
         → ((next : Marking) → Inside (g .steps) next → runFrom g next (k + 1) rest ≡ runOn g next (k + 1) rest)
         → goOn k m o (λ next. runFrom g next (k + 1) rest) ≡ goOn k m o (λ next. runOn g next (k + 1) rest)
     go (Move.Moved next) q more = more next (entry-inside g m next e (clear-sound g clear) i q)
-    go (Move.Refused r back) q more = refl
+    go (Move.Refused back r) q more = refl

@@ -116,7 +116,7 @@ entries-drop (p ∷ s ∷ r ∷ rest) (suc k) h =
 
 -- entry k of the journal is not allowed: the run stops there
 pub run-refused : (g : Graph) (m back : Marking) (r : Refusal) (j : List ℕ) (k : ℕ) → 3 * k + 3 ≤ length j
-    → entryMove g m (entryAt j k) ≡ Move.Refused r back
+    → entryMove g m (entryAt j k) ≡ Move.Refused back r
     → runOn g m k (entries (drop (3 * k) j)) ≡ Ran.Stopped k r m
 unfolding runOn goOn
 run-refused g m back r j k h e =

@@ -17,7 +17,7 @@ use Rattle.journal.specs.Journal.{entries, lengthFits}
 -- entry k in marking m: where it is allowed the run goes on with the marking after, else it stops with the marking before
 unfoldable pub goOn : ℕ → Marking → Move → (Marking → Ran) → Ran
 goOn k m (Move.Moved next) rest = rest next
-goOn k m (Move.Refused r back) rest = Ran.Stopped k r m
+goOn k m (Move.Refused back r) rest = Ran.Stopped k r m
 
 -- the entries are taken in turn until one is not allowed: its index, its refusal and the marking it met are the answer. Where none is
 -- refused, the last marking and the count of entries are. Here of the entries from entry k on, in marking m

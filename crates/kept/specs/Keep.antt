@@ -9,7 +9,7 @@ use Rattle.kept.specs.declared.Kept.{Kept}
 -- an allowed entry alters it; a refused entry leaves its three sets untouched
 unfoldable pub keptBy : Marking → Move → Marking
 keptBy m (Move.Moved next) = next
-keptBy m (Move.Refused r back) = m
+keptBy m (Move.Refused back r) = m
 
 -- the same answers as the move, and the marking that lies there then
 unfoldable pub theKept : Graph → Marking → Entry → Kept

@@ -21,7 +21,7 @@ unfolding theKept keptBy
 kept-moved g m next e q = ap (λ (o : Move). record { answer = o; marking = keptBy m o }) q
 
 -- a refused one leaves it untouched
-pub kept-refused : (g : Graph) (m back : Marking) (r : Refusal) (e : Entry) → theMove g m e ≡ Move.Refused r back
-    → theKept g m e ≡ record { answer = Move.Refused r back; marking = m }
+pub kept-refused : (g : Graph) (m back : Marking) (r : Refusal) (e : Entry) → theMove g m e ≡ Move.Refused back r
+    → theKept g m e ≡ record { answer = Move.Refused back r; marking = m }
 unfolding theKept keptBy
 kept-refused g m back r e q = ap (λ (o : Move). record { answer = o; marking = keptBy m o }) q

@@ -23,8 +23,8 @@ pub fn keeping(m: Marking, g: &Job, e: Entry) -> Kept
             answer: Move::Moved(next),
             marking: next,
         },
-        Move::Refused(r, back) => Kept {
-            answer: Move::Refused(r, back),
+        Move::Refused(back, r) => Kept {
+            answer: Move::Refused(back, r),
             marking: m,
         },
     }

@@ -24,7 +24,7 @@ still x m s = minus (meet (meet (m .due) (m .included)) x) (single s)
 -- entry k in marking m: where it is allowed the leg goes on with the marking after, else it stops there
 unfoldable pub goThrough : ℕ → Move → (Marking → Leg) → Leg
 goThrough k (Move.Moved next) rest = rest next
-goThrough k (Move.Refused r back) rest = Leg.Stopped k r
+goThrough k (Move.Refused back r) rest = Leg.Stopped k r
 
 -- through the entries from entry k on, in marking m, with x left so far
 unfoldable pub legOn : Graph → Marking → ℕ → ℕ → List Entry → Leg

@@ -49,7 +49,7 @@ module _ (g : Graph) (m : Marking) (e : ℕ → Entry) where
   -- the entry at i is the first that is not allowed, with refusal r
   pub record RefusedAt (i : ℕ) (r : Refusal) : Type 0 where
     pub before : (j : ℕ) → j < i → TakenAt j
-    pub here : movedAt i ≡ Move.Refused r (markingAt i)
+    pub here : movedAt i ≡ Move.Refused (markingAt i) r
 
   -- every entry is allowed
   abbrev pub GoesOn : Type 0

@@ -40,11 +40,11 @@ module _ (g : Graph) (m : Marking) (e : ℕ → Entry) where
   run-moves i q = ap (λ (v : Verdict). moveOf v (markingAt g m e i) (markingAt g m e (suc i))) q
 
   run-refuses : (i : ℕ) (r : Refusal) → verdictAt i ≡ Verdict.Refused r
-      → entryMove g (markingAt g m e i) (e i) ≡ Move.Refused r (markingAt g m e i)
+      → entryMove g (markingAt g m e i) (e i) ≡ Move.Refused (markingAt g m e i) r
   unfolding entryMove moveOf markingAt ascends numberOf
   run-refuses i r q =
       ap (λ (v : Verdict). moveOf v (markingAt g m e i) (markingAt g m e (suc i))) q
-      ∙ ap (λ (b : Bool). Move.Refused r (cond b (markingAt g m e i) noMarking))
+      ∙ ap (λ (b : Bool). Move.Refused (cond b (markingAt g m e i) noMarking) r)
       (le-leb 11 (numberOf r) (let h : 10 < numberOf r = first-above 10 (entryLines g (markingAt g m e i) (e i)) r refl q in omega arith))
 
   -- an entry that is taken has nothing against it
@@ -70,5 +70,5 @@ module _ (g : Graph) (m : Marking) (e : ℕ → Entry) where
     moves-at i all q = by-entry i all ∙ run-moves i q
 
     pub refuses-at : (i : ℕ) (r : Refusal) → UnbarredUntil i → verdictAt i ≡ Verdict.Refused r
-        → movedAt g m e i ≡ Move.Refused r (markingAt g m e i)
+        → movedAt g m e i ≡ Move.Refused (markingAt g m e i) r
     refuses-at i r all q = by-entry i all ∙ run-refuses i r q

@@ -30,7 +30,7 @@ use Rattle.laps.specs.Right.{some, sound, inside, decision-right}
 
 module _ (g : Graph) (m : Marking) (e : ℕ → Entry) where
   -- an entry that is taken is not refused
-  taken-refused : {A : Type 0} (i : ℕ) (r : Refusal) → TakenAt g m e i → movedAt g m e i ≡ Move.Refused r (markingAt g m e i) → A
+  taken-refused : {A : Type 0} (i : ℕ) (r : Refusal) → TakenAt g m e i → movedAt g m e i ≡ Move.Refused (markingAt g m e i) r → A
   taken-refused i r p q = absurd (let z : _≡_ {A = ℕ} 0 1 = cc in let w : ⊥ = omega arith in w)
 
   -- the first entry not allowed is one
@@ -42,7 +42,7 @@ module _ (g : Graph) (m : Marking) (e : ℕ → Entry) where
       go (no h) (yes k) = taken-refused j q (a .before j k) (b .here)
       go (no h) (no k) =
           let same : i ≡ j = omega arith in
-          let both : Move.Refused r (markingAt g m e i) ≡ Move.Refused q (markingAt g m e j) = sym (a .here) ∙ ap (movedAt g m e) same
+          let both : Move.Refused (markingAt g m e i) r ≡ Move.Refused (markingAt g m e j) q = sym (a .here) ∙ ap (movedAt g m e) same
           ∙ b .here in
           (same, cc)
 

@@ -160,5 +160,5 @@ module _ (stem lap : List Entry) (some : 0 < length lap) where
         go (no h) =
             let all = twice-for-ever (λ i l. taken-clear g m e i (s .refused .before i (let z : i < s .position = omega arith in z))) in
             let taken : TakenAt g m e (s .position) = moves-at g m e clear within (s .position) (λ j l. all j) (all (s .position)) in
-            let no : movedAt g m e (s .position) ≡ Move.Refused r (M (s .position)) = s .refused .here in
+            let no : movedAt g m e (s .position) ≡ Move.Refused (M (s .position)) r = s .refused .here in
             let z : _≡_ {A = ℕ} 0 1 = cc in omega arith

@@ -47,7 +47,7 @@ module _ (g : Graph) (m : Marking) (x : ℕ) (j : List ℕ) (k : ℕ) where
       ∙ ap (λ (z : ℕ). legOn g next y (k + 1) (entries (drop z j))) (let w : 3 * k + 3 ≡ 3 * (k + 1) = omega arith in w)
 
   -- it is not: the leg stops there
-  leg-refused : (r : Refusal) (back : Marking) → 3 * k + 3 ≤ length j → entryMove g m (entryAt j k) ≡ Move.Refused r back
+  leg-refused : (r : Refusal) (back : Marking) → 3 * k + 3 ≤ length j → entryMove g m (entryAt j k) ≡ Move.Refused back r
       → legOn g m x k (entries (drop (3 * k) j)) ≡ Leg.Stopped k r
   unfolding legOn goThrough
   leg-refused r back h q =
@@ -97,7 +97,7 @@ leg-run g p rest (e ∷ es) m x k = go (entryMove g m e) (λ next. leg-run g p r
         → upon (goThrough k o (λ next. legOn g next (still x m (e .step .0)) (k + 1) es)) p (λ end y. rest end) ≡ uponRun
         (run.goOn k m o (λ next. runOn g next (k + 1) es)) p rest
     go (Move.Moved next) more = more next
-    go (Move.Refused r back) more = refl
+    go (Move.Refused back r) more = refl
 
 module _ (g : Graph) (m : Marking) (es : List Entry) (p : Pass) (rest : Marking → Lapped) where
   pub upon-run-ended : (next : Marking) (k : ℕ) → runOn g m 0 es ≡ Ran.Ended next k → upon (legOf g m es) p (λ end x. rest end) ≡ rest next

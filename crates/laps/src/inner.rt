@@ -67,7 +67,7 @@ fn stopped<'a>(g: &'a Job, m: Marking, e: Entry, index: u16) -> Leg
 {
     match enter(g, m, e) {
         Move::Moved(next) => Leg::Ended(next, 0),
-        Move::Refused(r, _) => Leg::Stopped(index, r),
+        Move::Refused(_, r) => Leg::Stopped(index, r),
     }
 }
 

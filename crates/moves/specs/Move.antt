@@ -78,21 +78,21 @@ noMarking = record { done = 0; due = 0; included = 0 }
 -- nothing against the entry: the marking after. Else the refusal, from 11 on with the marking handed in, below with zeros
 unfoldable pub moveOf : Verdict → Marking → Marking → Move
 moveOf Verdict.Clear before next = Move.Moved next
-moveOf (Verdict.Refused r) before next = Move.Refused r (cond (leb 11 (numberOf r)) before noMarking)
+moveOf (Verdict.Refused r) before next = Move.Refused (cond (leb 11 (numberOf r)) before noMarking) r
 
 -- ---- number and values of each case
 
 -- 0 where the step is taken
 unfoldable pub numberOfMove : Move → ℕ
 numberOfMove (Move.Moved m) = 0
-numberOfMove (Move.Refused r m) = numberOf r
+numberOfMove (Move.Refused m r) = numberOf r
 
 -- the steps that 15 waits for
 unfoldable pub waitingOfMove : Move → ℕ
 waitingOfMove (Move.Moved m) = 0
-waitingOfMove (Move.Refused r m) = waitingOf r
+waitingOfMove (Move.Refused m r) = waitingOf r
 
 -- the marking after, or what is given back
 unfoldable pub markingOfMove : Move → Marking
 markingOfMove (Move.Moved m) = m
-markingOfMove (Move.Refused r m) = m
+markingOfMove (Move.Refused m r) = m

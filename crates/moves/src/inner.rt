@@ -57,17 +57,17 @@ pub fn take_row(w: Row, m: Marking, e: Entry) -> Move
     let r = e.role;
     let next = moved(w, m, s);
     if !sets::has(w.held, r) {
-        return Move::Refused(Refusal::NotHeld, m);
+        return Move::Refused(m, Refusal::NotHeld);
     }
     if !sets::has(w.allows, r) {
-        return Move::Refused(Refusal::NotOnStep, m);
+        return Move::Refused(m, Refusal::NotOnStep);
     }
     if !sets::has(m.included, s) {
-        return Move::Refused(Refusal::Excluded, m);
+        return Move::Refused(m, Refusal::Excluded);
     }
     let open = waits(w.conditions, m);
     if open != 0 {
-        return Move::Refused(Refusal::Waits(open), m);
+        return Move::Refused(m, Refusal::Waits(open));
     }
     Move::Moved(next)
 }

@@ -9,6 +9,7 @@ pub mod inner;
 pub struct Step(pub u8);
 
 // A step's rank in the tracker, counted from 1.
+#[repr(C)]
 pub struct Rank(pub u8);
 
 // A person takes a step in a role.
@@ -61,10 +62,11 @@ pub enum Verdict {
     Refused(Refusal),
 }
 
-// A step taken, with the marking after; or refused, with the marking handed in (below 11: an empty one).
+// A step taken, with the marking after; or refused, with the marking handed in (below 11: an empty one). The marking stands first in
+// both, so that it lies in one place whatever the answer is: else each move is moved once more.
 pub enum Move {
     Moved(Marking),
-    Refused(Refusal, Marking),
+    Refused(Marking, Refusal),
 }
 
 // What a refusal says: its number on the door, and with 15 the set of steps that are waited for (empty with every other).

@@ -26,4 +26,4 @@ noTrack = record { marking = noMarking; rank = 0; flag = 0 }
 unfoldable pub trackOfTracked : Track → Tracked → Track
 trackOfTracked before (Tracked.At next) = trackOut next
 trackOfTracked before (Tracked.Refused r) = noTrack
-trackOfTracked before (Tracked.Stays r t) = before
+trackOfTracked before (Tracked.Stays t r) = before

@@ -65,7 +65,7 @@ pub fn tracked(t: Track, o: tracker::Tracked) -> Tracked
                 track: NOWHERE,
             }
         }
-        tracker::Tracked::Stays(r, _) => {
+        tracker::Tracked::Stays(_, r) => {
             let w = said(r);
             Tracked {
                 number: w.number,

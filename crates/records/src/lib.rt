@@ -7,7 +7,9 @@ use moves::Refusal;
 
 pub mod inner;
 
-// What is needed of a marking, and what is then done to it. Never: no marking will do.
+// What is needed of a marking, and what is then done to it. Never: no marking will do. It lies as it is written here, so that what is
+// small in it and in a refusal lie in one place.
+#[repr(C)]
 pub struct Record {
     pub never: bool,
     pub needin: u64,

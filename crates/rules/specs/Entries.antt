@@ -24,7 +24,7 @@ unfolding moveOf
 moved-of Verdict.Clear m a next e = (refl, cc)
 moved-of (Verdict.Refused r) m a next e = absurd (let z : _≡_ {A = ℕ} 0 1 = cc in let w : ⊥ = omega arith in w)
 
-refused-of : (v : Verdict) (m a back : Marking) (r : Refusal) → moveOf v m a ≡ Move.Refused r back
+refused-of : (v : Verdict) (m a back : Marking) (r : Refusal) → moveOf v m a ≡ Move.Refused back r
     → (v ≡ Verdict.Refused r) × (cond (leb 11 (numberOf r)) m noMarking ≡ back)
 unfolding moveOf
 refused-of Verdict.Clear m a back r e = absurd (let z : _≡_ {A = ℕ} 0 1 = cc in let w : ⊥ = omega arith in w)
@@ -48,7 +48,7 @@ unfolding theMove moveOf
 clear-moved g m e p = ap (λ (v : Verdict). moveOf v m (after (rowOf g (e .person) (e .step .0)) m (e .step .0))) p
 
 -- a refused step is refused by the table
-pub refused-first : (g : Graph) (m back : Marking) (e : Entry) (r : Refusal) → theMove g m e ≡ Move.Refused r back
+pub refused-first : (g : Graph) (m back : Marking) (e : Entry) (r : Refusal) → theMove g m e ≡ Move.Refused back r
     → first (moveLines g m e) ≡ Verdict.Refused r
 unfolding theMove
 refused-first g m back e r q =
@@ -70,7 +70,7 @@ entry-after g m next e q =
     (not-false (entryKnown g e) (clear-head _ _ (clear .0)), clear .1)
 
 -- an entry that is not gives back the marking handed in
-pub entry-back : (g : Graph) (m back : Marking) (e : Entry) (r : Refusal) → entryMove g m e ≡ Move.Refused r back → (11 ≤ numberOf r)
+pub entry-back : (g : Graph) (m back : Marking) (e : Entry) (r : Refusal) → entryMove g m e ≡ Move.Refused back r → (11 ≤ numberOf r)
     × (m ≡ back)
 unfolding entryMove ascends numberOf
 entry-back g m back e r q =

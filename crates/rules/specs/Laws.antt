@@ -43,12 +43,12 @@ unfolding numbersBelow numberOf
 graph-low g r e = lt-leb 11 (numberOf r) (let h : numberOf r < 7 = first-below 7 (graphLines g) r refl e in omega arith)
 
 pub move-refused : (g : Graph) (m : Marking) (e : Entry) (r : Refusal) → graphVerdict g ≡ Verdict.Refused r
-    → theMove g m e ≡ Move.Refused r noMarking
+    → theMove g m e ≡ Move.Refused noMarking r
 unfolding theMove moveOf
 move-refused g m e r q =
     ap (λ (v : Verdict). moveOf v m (after (rowOf g (e .person) (e .step .0)) m (e .step .0)))
     (first-refused (graphLines g) (markingLines g m ++ entryLines g m e) r q)
-    ∙ ap (λ (b : Bool). Move.Refused r (cond b m noMarking)) (graph-low g r q)
+    ∙ ap (λ (b : Bool). Move.Refused (cond b m noMarking) r) (graph-low g r q)
 
 pub move-clear : (g : Graph) (m : Marking) (e : Entry) → graphVerdict g ≡ Verdict.Clear → theMove g m e ≡ moveOn g m e
 unfolding theMove moveOn
@@ -56,7 +56,7 @@ move-clear g m e q =
     ap (λ (v : Verdict). moveOf v m (after (rowOf g (e .person) (e .step .0)) m (e .step .0)))
     (first-clear (graphLines g) (markingLines g m ++ entryLines g m e) q)
 
-pub on-outside : (g : Graph) (m : Marking) (e : Entry) → markingFits (g .steps) m ≡ false → moveOn g m e ≡ Move.Refused Outside noMarking
+pub on-outside : (g : Graph) (m : Marking) (e : Entry) → markingFits (g .steps) m ≡ false → moveOn g m e ≡ Move.Refused noMarking Outside
 unfolding moveOn moveOf numberOf
 on-outside g m e f = ap (λ (v : Verdict). moveOf v m (after (rowOf g (e .person) (e .step .0)) m (e .step .0)))
     (outside (g .steps) m (entryLines g m e) f)
@@ -67,7 +67,7 @@ on-inside g m e f = ap (λ (v : Verdict). moveOf v m (after (rowOf g (e .person)
     (inside (g .steps) m (entryLines g m e) f)
 
 pub move-outside : (g : Graph) (m : Marking) (e : Entry) → graphVerdict g ≡ Verdict.Clear → markingFits (g .steps) m ≡ false
-    → theMove g m e ≡ Move.Refused Outside noMarking
+    → theMove g m e ≡ Move.Refused noMarking Outside
 move-outside g m e q f = move-clear g m e q ∙ on-outside g m e f
 
 pub move-inside : (g : Graph) (m : Marking) (e : Entry) → graphVerdict g ≡ Verdict.Clear → markingFits (g .steps) m ≡ true
@@ -92,7 +92,7 @@ ending-inside n m f = ap (λ (v : Verdict). endingOf v (isFinished m)) (inside n
 
 -- ---- an entry, by what is known of it
 
-pub entry-unknown : (g : Graph) (m : Marking) (e : Entry) → entryKnown g e ≡ false → entryMove g m e ≡ Move.Refused Unknown m
+pub entry-unknown : (g : Graph) (m : Marking) (e : Entry) → entryKnown g e ≡ false → entryMove g m e ≡ Move.Refused m Unknown
 unfolding entryMove first moveOf numberOf
 entry-unknown g m e k = simp k
 

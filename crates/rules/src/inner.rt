@@ -55,13 +55,13 @@ pub fn enter(g: &Job, m: Marking, e: Entry) -> Move
     let s = e.step.0;
     let r = e.role;
     if g[1] <= p as u64 {
-        return Move::Refused(Refusal::Unknown, m);
+        return Move::Refused(m, Refusal::Unknown);
     }
     if g[0] <= s as u64 {
-        return Move::Refused(Refusal::Unknown, m);
+        return Move::Refused(m, Refusal::Unknown);
     }
     if g[2] <= r as u64 {
-        return Move::Refused(Refusal::Unknown, m);
+        return Move::Refused(m, Refusal::Unknown);
     }
     take_row(row_at(g, p, s), m, e)
 }
@@ -72,7 +72,7 @@ pub fn take_on(g: &Job, m: Marking, e: Entry) -> Move
     ensures { λ r. ⌜ r ≡ moveOn (graphOf (now (g .entry))) m e ⌝ }
 {
     if !fits(g[0], m) {
-        return Move::Refused(Refusal::Outside, NONE);
+        return Move::Refused(NONE, Refusal::Outside);
     }
     enter(g, m, e)
 }

@@ -72,7 +72,7 @@ pub fn take(g: &Job, m: Marking, e: Entry) -> Move
 {
     let v = check(g);
     if let Verdict::Refused(r) = v {
-        return Move::Refused(r, NONE);
+        return Move::Refused(NONE, r);
     }
     take_on(g, m, e)
 }

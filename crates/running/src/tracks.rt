@@ -73,7 +73,7 @@ fn advanced(page: &mut Page, p: Places, g: &Job, t: Track, k: usize, e: Entry) -
             say_place(page, next);
             goes(next)
         }
-        Tracked::Stays(r, before) => {
+        Tracked::Stays(before, r) => {
             say_stays(page, p, g, k, e, r, before);
             halts(before, true)
         }
@@ -129,7 +129,7 @@ pub fn track(page: &mut Page, p: Places, g: &Job, m: Marking, j: &[u8]) -> Answe
     let o = tracker::start(g, m);
     match o {
         Tracked::At(start) => say_tracked(page, p, g, start, j),
-        Tracked::Stays(r, _) => say_unstarted(page, place_of(p, r), g, m, r),
+        Tracked::Stays(_, r) => say_unstarted(page, place_of(p, r), g, m, r),
         Tracked::Refused(r) => say_unstarted(page, place_of(p, r), g, m, r),
     }
 }

@@ -46,7 +46,7 @@ run-append g m k (e ∷ a) b = go (theMove g m e) (λ next. run-append g next (k
         → goOn k m o (λ next. runFrom g next (k + 1) (a ++ b)) ≡ andThen (goOn k m o (λ next. runFrom g next (k + 1) a))
         (λ m′ k′. runFrom g m′ k′ b)
     go (Move.Moved next) rest = rest next
-    go (Move.Refused r back) rest = refl
+    go (Move.Refused back r) rest = refl
 
 -- a run whose entries stand n further on
 unfoldable pub further : ℕ → Ran → Ran
@@ -61,7 +61,7 @@ run-later g m n k (e ∷ rest) = go (theMove g m e) (λ next. run-later g next n
     go : (o : Move) → ((next : Marking) → runFrom g next (n + (k + 1)) rest ≡ further n (runFrom g next (k + 1) rest))
         → goOn (n + k) m o (λ next. runFrom g next (n + k + 1) rest) ≡ further n (goOn k m o (λ next. runFrom g next (k + 1) rest))
     go (Move.Moved next) more = ap (λ (x : ℕ). runFrom g next x rest) (let z : n + k + 1 ≡ n + (k + 1) = omega arith in z) ∙ more next
-    go (Move.Refused r back) more = refl
+    go (Move.Refused back r) more = refl
 
 -- ---- where a run ends or stops
 
@@ -74,7 +74,7 @@ Passes g m (e ∷ rest) m′ = (next : Marking) × (theMove g m e ≡ Move.Moved
 pub record StopsAt (g : Graph) (m : Marking) (es : List Entry) (k : ℕ) (r : Refusal) (m′ : Marking) : Type 0 where
   pub small : k < length es
   pub before : Passes g m (take k es) m′
-  pub refused : (d : Entry) → theMove g m′ (getD es k d) ≡ Move.Refused r m′
+  pub refused : (d : Entry) → theMove g m′ (getD es k d) ≡ Move.Refused m′ r
 
 -- a run ends exactly if all pass
 pub run-passes : (g : Graph) (m m′ : Marking) (k n : ℕ) (es : List Entry) → runFrom g m k es ≡ Ran.Ended m′ n → (n ≡ k + length es)
@@ -90,7 +90,7 @@ run-passes g m m′ k n (x ∷ rest) e = go (theMove g m x) refl (λ next. run-p
         let f = more next (ap (λ (o : Move). goOn k m o (λ y. runFrom g y (k + 1) rest)) (sym q) ∙ e) in
         let count : n ≡ k + 1 + length rest = f .0 in
         (let z : n ≡ k + suc (length rest) = omega arith in z, (next, q, f .1))
-    go (Move.Refused r back) q more =
+    go (Move.Refused back r) q more =
         absurd (let s : Ran.Stopped k r m ≡ Ran.Ended m′ n = ap (λ (o : Move). goOn k m o (λ y. runFrom g y (k + 1) rest)) (sym q) ∙ e in
         let z : _≡_ {A = ℕ} 0 1 = cc in let w : ⊥ = omega arith in w)
 
@@ -131,7 +131,7 @@ run-stops g m m′ k n r (x ∷ rest) clear within e = go (theMove g m x) refl (
                 f .2 .refused;
           },
         )
-    go (Move.Refused p back) q more =
+    go (Move.Refused back p) q more =
         let s : Ran.Stopped k p m ≡ Ran.Stopped n r m′ = ap (λ (o : Move). goOn k m o (λ y. runFrom g y (k + 1) rest)) (sym q) ∙ e in
         let here : k ≡ n = cc in
         let why : p ≡ r = cc in
@@ -170,7 +170,7 @@ run-within g m k (e ∷ rest) clear i = go (theMove g m e) refl (λ next. run-wi
         → Inside (g .steps) (markingOfRun (goOn k m o (λ y. runFrom g y (k + 1) rest)))
     go (Move.Moved next) q more =
         more next (entry-inside g m next e (clear-sound g clear) i (sym (move-inside g m e clear (inside-fits (g .steps) m i)) ∙ q))
-    go (Move.Refused r back) q more = i
+    go (Move.Refused back r) q more = i
 
 -- ---- the same of a journal
 

@@ -61,7 +61,7 @@ walk-hands-none (suc n) j k f =
 
 -- where a run stops, the walk hands out the entry that it stopped at, after those that passed
 pub stopped-walk : (g : Graph) (m m′ : Marking) (k : ℕ) (r : Refusal) (j : List ℕ) → theRun g m j ≡ Ran.Stopped k r m′ → 11 ≤ numberOf r
-    → Passes g m (handed k j 0) m′ × (strideAt j k .said ≡ Walked.At (entryAt j k)) × (theMove g m′ (entryAt j k) ≡ Move.Refused r m′)
+    → Passes g m (handed k j 0) m′ × (strideAt j k .said ≡ Walked.At (entryAt j k)) × (theMove g m′ (entryAt j k) ≡ Move.Refused m′ r)
 stopped-walk g m m′ k r j e high =
     let known = stopped-first g m m′ k r j e high in
     let count : length (entries j) * 3 ≡ length j = entries-length j (fits-threes j (known .0 .long)) in

@@ -110,7 +110,7 @@ at m i up = Tracked.At (record { marking = m; rank = record { 0 = i }; flag = up
 unfoldable pub tracking : Graph → Tracked → Entry → Tracked
 tracking g (Tracked.At t) e = theStep g t e
 tracking g (Tracked.Refused r) e = Tracked.Refused r
-tracking g (Tracked.Stays r t) e = Tracked.Stays r t
+tracking g (Tracked.Stays t r) e = Tracked.Stays t r
 
 -- the bytes of a journal: person, step, role
 unfoldable pub journal : List Entry → List ℕ

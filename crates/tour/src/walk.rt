@@ -55,7 +55,7 @@ fn tried(page: &mut Page, g: &Job, m: Marking, who: [u8; 3]) -> Marking {
             say_state(page, g, next);
             next
         }
-        Move::Refused(r, before) => {
+        Move::Refused(before, r) => {
             say(page, b"not allowed: ");
             say_told(page, moves::tell(r));
             say(page, b"\n");

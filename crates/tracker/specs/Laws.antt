@@ -71,7 +71,7 @@ refused-by : (g : Graph) (m : Marking) (more : List Line) (before next : Track) 
 unfolding trackedOf
 refused-by g m more before next r e =
     ap (λ (v : Verdict). trackedOf v before next) (first-refused (startLines g m) more r e)
-    ∙ ap (λ (b : Bool). cond b (Tracked.Stays r before) (Tracked.Refused r)) (sound-low g m r e)
+    ∙ ap (λ (b : Bool). cond b (Tracked.Stays before r) (Tracked.Refused r)) (sound-low g m r e)
 
 rank-first : (g : Graph) (t : Track) (more : List Line) → first (startLines g (t .marking)) ≡ Verdict.Clear
     → first (startLines g (t .marking) ++ rankLines g (t .rank) ++ more) ≡ cond (not (isRank (g .steps) (t .rank .0)))
@@ -125,7 +125,7 @@ step-unranked g t e q f = unranked-by g t (entryLines g (t .marking) e) t _ q f
 -- what becomes of the tracker's state where the entry is let in or not
 unfoldable pub entered : Move → Track → ℕ → Tracked
 entered (Move.Moved next) t s = Tracked.At (trackAfter t next s)
-entered (Move.Refused r m) t s = Tracked.Stays r t
+entered (Move.Refused m r) t s = Tracked.Stays t r
 
 pub step-entered : (g : Graph) (t : Track) (e : Entry) → first (startLines g (t .marking)) ≡ Verdict.Clear
     → isRank (g .steps) (t .rank .0) ≡ true
@@ -144,7 +144,7 @@ step-entered g t e q f =
         → trackedOf v t (trackAfter t next (e .step .0)) ≡ entered (moveOf v (t .marking) next) t (e .step .0)
     go Verdict.Clear p = refl
     go (Verdict.Refused r) p =
-        ap (λ (b : Bool). cond b (Tracked.Stays r t) (Tracked.Refused r))
+        ap (λ (b : Bool). cond b (Tracked.Stays t r) (Tracked.Refused r))
         (le-leb 11 (numberOf r) (let h : 10 < numberOf r = first-above 10 (entryLines g (t .marking) e) r refl p in omega arith))
 
 -- ---- H and x
@@ -222,7 +222,7 @@ unfolding trackedOf
 tracked-at Verdict.Clear before next u e = (refl, cc)
 tracked-at (Verdict.Refused r) before next u e = absurd (never (leb 11 (numberOf r)) e)
   where
-    never : (b : Bool) → cond b (Tracked.Stays r before) (Tracked.Refused r) ≡ Tracked.At u → ⊥
+    never : (b : Bool) → cond b (Tracked.Stays before r) (Tracked.Refused r) ≡ Tracked.At u → ⊥
     never true e = let z : _≡_ {A = ℕ} 0 1 = cc in let w : ⊥ = omega arith in w
     never false e = let z : _≡_ {A = ℕ} 0 1 = cc in let w : ⊥ = omega arith in w
 

@@ -87,7 +87,7 @@ stepLines g t e = startLines g (t .marking) ++ rankLines g (t .rank) ++ entryLin
 -- nothing against it: the state after. Else the refusal, from 11 on with the state handed in, below 11 with none, so that no rank is 0
 unfoldable pub trackedOf : Verdict → Track → Track → Tracked
 trackedOf Verdict.Clear before next = Tracked.At next
-trackedOf (Verdict.Refused r) before next = cond (leb 11 (numberOf r)) (Tracked.Stays r before) (Tracked.Refused r)
+trackedOf (Verdict.Refused r) before next = cond (leb 11 (numberOf r)) (Tracked.Stays before r) (Tracked.Refused r)
 
 unfoldable pub theStart : Graph → Marking → Tracked
 theStart g m = trackedOf (first (startLines g m)) (begin m) (begin m)
@@ -105,10 +105,10 @@ theStep g t e =
 unfoldable pub numberOfTracked : Tracked → ℕ
 numberOfTracked (Tracked.At t) = 0
 numberOfTracked (Tracked.Refused r) = numberOf r
-numberOfTracked (Tracked.Stays r t) = numberOf r
+numberOfTracked (Tracked.Stays t r) = numberOf r
 
 -- the steps that 15 waits for
 unfoldable pub waitingOfTracked : Tracked → ℕ
 waitingOfTracked (Tracked.At t) = 0
 waitingOfTracked (Tracked.Refused r) = waitingOf r
-waitingOfTracked (Tracked.Stays r t) = waitingOf r
+waitingOfTracked (Tracked.Stays t r) = waitingOf r

@@ -17,18 +17,19 @@ use rules::Job;
 
 pub mod inner;
 
-// A marking, the rank that was served last, and the flag.
+// A marking, the rank that was served last, and the flag. The small ones lie first, where a refusal has its small part too.
+#[repr(C)]
 pub struct Track {
-    pub marking: Marking,
     pub rank: Rank,
     pub flag: bool,
+    pub marking: Marking,
 }
 
 // The state after; or refused (below 11); or refused from 11 on, with the state handed in.
 pub enum Tracked {
     At(Track),
     Refused(Refusal),
-    Stays(Refusal, Track),
+    Stays(Track, Refusal),
 }
 
 // The state that a marking starts with. Refusals 2, 4, 6, 8.
@@ -69,7 +70,7 @@ pub fn advance(g: &Job, t: Track, e: Entry) -> Tracked
     }
     let o = rules::inner::enter(g, t.marking, e);
     match o {
-        Move::Refused(r, _) => Tracked::Stays(r, t),
+        Move::Refused(_, r) => Tracked::Stays(t, r),
         Move::Moved(next) => Tracked::At(follow(t, next, e.step)),
     }
 }

@@ -51,7 +51,7 @@ kept-tells g m e = move-tells g m e
 
 -- ---- the move that a longer call stops at
 
-move-refused-tells : (g : Graph) (m back : Marking) (e : Entry) (r : Refusal) → (numberOf r ≡ 15 → theMove g m e ≡ Move.Refused r back)
+move-refused-tells : (g : Graph) (m back : Marking) (e : Entry) (r : Refusal) → (numberOf r ≡ 15 → theMove g m e ≡ Move.Refused back r)
     → Tells g m (e .step .0) (numberOf r) (waitingOf r)
 move-refused-tells g m back e r stops =
     refusal-tells g m e r (λ is. entry-refused g m e r (refused-first g m back e r (stops is)) is .1)
@@ -91,7 +91,7 @@ entries-tell g m j clear inside = go (runFrom g m 0 (entries j)) refl
         let place : n ≡ 0 + stop .0 = stop .1 in
         let here : stop .0 ≡ n = omega arith in
         move-refused-tells g m′ m′ (entryWith j n) r
-        (λ is. subst (λ (k : ℕ). theMove g m′ (entryWith j k) ≡ Move.Refused r m′) here (stop .2 .refused (entryOf 0 0 0)))
+        (λ is. subst (λ (k : ℕ). theMove g m′ (entryWith j k) ≡ Move.Refused m′ r) here (stop .2 .refused (entryOf 0 0 0)))
 
 pub run-tells : (g : Graph) (m : Marking) (j : List ℕ) → RunTells g j (theRun g m j)
 unfolding theRun ranOf numberOfRun waitingOfRun indexOfRun markingOfRun holds numberOf
@@ -172,8 +172,8 @@ unfolding trackedOf numberOfTracked waitingOfTracked
 tracked-tells g m s Verdict.Clear before next told = nothing-told g m s
 tracked-tells g m s (Verdict.Refused r) before next told = either (leb 11 (numberOf r))
   where
-    either : (b : Bool) → Tells g m s (numberOfTracked (cond b (Tracked.Stays r before) (Tracked.Refused r)))
-        (waitingOfTracked (cond b (Tracked.Stays r before) (Tracked.Refused r)))
+    either : (b : Bool) → Tells g m s (numberOfTracked (cond b (Tracked.Stays before r) (Tracked.Refused r)))
+        (waitingOfTracked (cond b (Tracked.Stays before r) (Tracked.Refused r)))
     either true = told r refl
     either false = told r refl
 
@@ -193,7 +193,7 @@ tracked-none : (lines : List Line) (before next : Track) → holds 15 lines ≡ 
 unfolding trackedOf waitingOfTracked
 tracked-none lines before next without = go (first lines) refl
   where
-    either : (r : Refusal) (b : Bool) → waitingOf r ≡ 0 → waitingOfTracked (cond b (Tracked.Stays r before) (Tracked.Refused r)) ≡ 0
+    either : (r : Refusal) (b : Bool) → waitingOf r ≡ 0 → waitingOfTracked (cond b (Tracked.Stays before r) (Tracked.Refused r)) ≡ 0
     either r true none = none
     either r false none = none
 

@@ -179,7 +179,7 @@ move-tells g m e = go (theMove g m e) refl
   where
     go : (o : Move) → theMove g m e ≡ o → Tells g m (e .step .0) (numberOfMove o) (waitingOfMove o)
     go (Move.Moved next) p = nothing-told g m (e .step .0)
-    go (Move.Refused r back) p = refusal-tells g m e r (λ is. entry-refused g m e r (refused-first g m back e r p) is .1)
+    go (Move.Refused back r) p = refusal-tells g m e r (λ is. entry-refused g m e r (refused-first g m back e r p) is .1)
 
 ready : (g : Graph) (m : Marking) (e : Entry) → first (before-entry g m) ≡ Verdict.Clear → entryKnown g e ≡ true → Ready g m e
 ready g m e clear known =
