@@ -9,7 +9,6 @@ pub mod inner;
 pub struct Step(pub u8);
 
 // A step's rank in the tracker, counted from 1.
-#[repr(C)]
 pub struct Rank(pub u8);
 
 // A person takes a step in a role.

@@ -7,9 +7,7 @@ use moves::Refusal;
 
 pub mod inner;
 
-// What is needed of a marking, and what is then done to it. Never: no marking will do. It lies as it is written here, so that what is
-// small in it and in a refusal lie in one place.
-#[repr(C)]
+// What is needed of a marking, and what is then done to it. Never: no marking will do.
 pub struct Record {
     pub never: bool,
     pub needin: u64,

@@ -17,12 +17,11 @@ use rules::Job;
 
 pub mod inner;
 
-// A marking, the rank that was served last, and the flag. The small ones lie first, where a refusal has its small part too.
-#[repr(C)]
+// A marking, the rank that was served last, and the flag.
 pub struct Track {
+    pub marking: Marking,
     pub rank: Rank,
     pub flag: bool,
-    pub marking: Marking,
 }
 
 // The state after; or refused (below 11); or refused from 11 on, with the state handed in.
