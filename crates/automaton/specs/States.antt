@@ -14,8 +14,7 @@ use Rattle.rules.specs.Graph.{Graph}
 use Rattle.moves.specs.declared.Marking.{Marking}
 use Rattle.moves.specs.declared.Entry.{Entry}
 use Rattle.moves.specs.declared.Verdict.{Verdict}
-use Rattle.moves.specs.declared.Refusal.{Refusal}
-use Rattle.moves.specs.First.{first, numberOfVerdict, numberOf, waitingOf}
+use Rattle.moves.specs.First.{first, numberOfVerdict, numberOf}
 use Rattle.moves.specs.Move.{isFinished}
 use Rattle.rules.specs.Answers.{entryKnown, entryLines}
 use Rattle.moves.specs.Given.{ascends, clear-head, clear-front, clear-back}
@@ -25,7 +24,7 @@ use Rattle.rules.specs.Entries.{moved-clear, moved-after}
 use Rattle.tracker.specs.declared.Track.{Track}
 use Rattle.tracker.specs.declared.Tracked.{Tracked}
 use Rattle.tracker.specs.Tracker.{pending, above, pool, meets, served, begin, rest, startLines, idleLines, stepLines}
-use Rattle.tracker.specs.Tracker.{trackedOf, theStart, theIdle, theStep, numberOfTracked, waitingOfTracked}
+use Rattle.tracker.specs.Tracker.{trackedOf, theStart, theIdle, theStep, numberOfTracked}
 use Rattle.automaton.specs.Paper.{State}
 use Rattle.tracker.specs.Laws.{clear-graph, clear-fits, rank-some, rank-most, rank-is, start-at, Idled, idle-at, Stepped, step-at}
 
@@ -158,21 +157,3 @@ idle-number g t = tracked-number (first (idleLines g t)) t (rest t)
 pub step-number : (g : Graph) (t : Track) (e : Entry) → numberOfTracked (theStep g t e) ≡ numberOfVerdict (first (stepLines g t e))
 unfolding theStep
 step-number g t e = tracked-number (first (stepLines g t e)) t _
-
--- a refused step tells the step that the refusal waits for
-refused-waits : (r : Refusal) (before next : Track) → waitingOfTracked (trackedOf (Verdict.Refused r) before next) ≡ waitingOf r
-unfolding waitingOfTracked trackedOf
-refused-waits r before next = either (leb 11 (numberOf r))
-  where
-    either : (b : Bool) → waitingOfTracked (cond b (Tracked.Stays before r) (Tracked.Refused r)) ≡ waitingOf r
-    either true = refl
-    either false = refl
-
-tracked-waits : (v : Verdict) (r : Refusal) (before next : Track) → v ≡ Verdict.Refused r
-    → waitingOfTracked (trackedOf v before next) ≡ waitingOf r
-tracked-waits v r before next e = ap (λ (w : Verdict). waitingOfTracked (trackedOf w before next)) e ∙ refused-waits r before next
-
-pub step-waits : (g : Graph) (t : Track) (e : Entry) (r : Refusal) → first (stepLines g t e) ≡ Verdict.Refused r
-    → waitingOfTracked (theStep g t e) ≡ waitingOf r
-unfolding theStep
-step-waits g t e r refused = tracked-waits (first (stepLines g t e)) r t _ refused

@@ -1,7 +1,7 @@
 -- Every answer that can hold 15 hands out the set of the very entry that was refused, read in the marking that this entry met.
 -- Assumes nothing.
 use Prim.Native.Nat.{ℕ, _+_, _≤_}
-use mathlib.Core.Path.{_≡_, refl, sym, ap, _∙_, subst}
+use mathlib.Core.Path.{_≡_, refl, sym, _∙_, subst}
 use mathlib.Core.List.{List, _++_}
 use mathlib.Core.Bool.{Bool, true, false, cond, true≢false}
 use native.Mathlib.Omega.{arith}
@@ -24,16 +24,15 @@ use Rattle.rules.specs.Answers.{entryLines, markingLines, theMove}
 use Rattle.rules.specs.Entries.{refused-first}
 use Rattle.kept.specs.Keep.{theKept}
 use Rattle.journal.specs.declared.Ran.{Ran}
-use Rattle.journal.specs.Journal.{entryOf, entries, lengthFits}
+use Rattle.journal.specs.Journal.{entryOf, entries}
 use Rattle.journal.specs.Run.{runFrom, lengthLines, runLines, ranOf, theRun, numberOfRun, waitingOfRun, indexOfRun, markingOfRun}
-use Rattle.runs.specs.Runs.{StopsAt, run-stops}
+use Rattle.runs.specs.Runs.{run-stops}
 use Rattle.records.specs.declared.Record.{Record}
 use Rattle.records.specs.Records.{applies, gives, wellFormed}
 use Rattle.records.specs.WellFormed.{well-formed}
 use Rattle.records.specs.Answered.{gives-inside}
 use Rattle.folding.specs.Answers.{restoreLines, theRestoring}
 use Rattle.laps.specs.declared.Lapped.{Lapped}
-use Rattle.laps.specs.declared.Pass.{Pass}
 use Rattle.laps.specs.Endless.{stepAt, markingAt, RefusedAt}
 use Rattle.laps.specs.Laps.{endlessRun, indexAt, passAt, lapLines, LapAnswer, numberOfLap, waitingOfLap, indexOfLap, passOfLap}
 use Rattle.tracker.specs.declared.Track.{Track}
@@ -57,8 +56,8 @@ move-refused-tells g m back e r stops =
     refusal-tells g m e r (λ is. entry-refused g m e r (refused-first g m back e r (stops is)) is .1)
 
 -- a table without 15 refuses with no set, whatever step one thinks of
-not-fifteen : (lines : List Line) (r : Refusal) → holds 15 lines ≡ false → first lines ≡ Verdict.Refused r → numberOf r ≡ 15 → ⊥
-not-fifteen lines r without e is = true≢false (sym (subst (λ (k : ℕ). holds k lines ≡ true) is (first-holds lines r e)) ∙ without)
+no-fifteen : (lines : List Line) (r : Refusal) → holds 15 lines ≡ false → first lines ≡ Verdict.Refused r → numberOf r ≡ 15 → ⊥
+no-fifteen lines r without e is = true≢false (sym (subst (λ (k : ℕ). holds k lines ≡ true) is (first-holds lines r e)) ∙ without)
 
 other-tells : (g : Graph) (m : Marking) (s : ℕ) (r : Refusal) → (numberOf r ≡ 15 → ⊥) → Tells g m s (numberOf r) (waitingOf r)
 other-tells g m s r other =
@@ -67,7 +66,7 @@ other-tells g m s r other =
 table-tells : (g : Graph) (m : Marking) (s : ℕ) (lines : List Line) (r : Refusal) → holds 15 lines ≡ false
     → first lines ≡ Verdict.Refused r
     → Tells g m s (numberOf r) (waitingOf r)
-table-tells g m s lines r without e = other-tells g m s r (not-fifteen lines r without e)
+table-tells g m s lines r without e = other-tells g m s r (no-fifteen lines r without e)
 
 -- ---- runs
 
@@ -151,7 +150,7 @@ lap-tells g m stem lap (Lapped.Refused r) right =
     record { exactly = λ is. absurd (other is); some = λ is none. other is; none = waiting-none r }
   where
     other : numberOf r ≡ 15 → ⊥
-    other = not-fifteen (lapLines g m stem lap) r refl right
+    other = no-fifteen (lapLines g m stem lap) r refl right
 lap-tells g m stem lap (Lapped.Stopped k p r) right =
     let stop = right .1 in
     let run = endlessRun (entries stem) (entries lap) in
@@ -199,7 +198,7 @@ tracked-none lines before next without = go (first lines) refl
 
     go : (v : Verdict) → first lines ≡ v → waitingOfTracked (trackedOf v before next) ≡ 0
     go Verdict.Clear e = refl
-    go (Verdict.Refused r) e = either r (leb 11 (numberOf r)) (waiting-none r (not-fifteen lines r without e))
+    go (Verdict.Refused r) e = either r (leb 11 (numberOf r)) (waiting-none r (no-fifteen lines r without e))
 
 pub start-tells : (g : Graph) (m : Marking) → waitingOfTracked (theStart g m) ≡ 0
 unfolding theStart holds numberOf

@@ -10,7 +10,7 @@ use Rattle.sets.specs.Truth.{or-first, or-second, or-split}
 use Rattle.moves.specs.declared.Marking.{Marking}
 use Rattle.moves.specs.declared.Entry.{Entry}
 use Rattle.moves.specs.declared.Move.{Move}
-use Rattle.moves.specs.Move.{after, numberOfMove, waitingOfMove, markingFits}
+use Rattle.moves.specs.Move.{after, numberOfMove, waitingOfMove}
 use Rattle.moves.specs.Inside.{Inside, fits-inside, inside-fits}
 use Rattle.rules.specs.Graph.{Graph}
 use Rattle.rules.specs.Answers.{rowOf, theMove}
@@ -18,9 +18,9 @@ use Rattle.rules.specs.Signs.{_∈_, Ex, In}
 use Rattle.rules.specs.Paper.{condition, Ready, allowed-taken, after-done}
 use Rattle.rules.specs.Entries.{moved-after}
 use Rattle.journal.specs.declared.Ran.{Ran}
-use Rattle.journal.specs.Run.{runFrom, markingOfRun}
+use Rattle.journal.specs.Run.{markingOfRun}
 use Rattle.runs.specs.Runs.{Passes, passes-run, run-within}
-use Rattle.waiting.specs.Entry.{waitedFor, Tells, Otherwise, otherwise-allowed, move-tells, waits-exactly}
+use Rattle.waiting.specs.Entry.{waitedFor, Otherwise, otherwise-allowed, move-tells, waits-exactly}
 
 -- step a is taken by one of the entries
 unfoldable pub occurs : ℕ → List Entry → Bool

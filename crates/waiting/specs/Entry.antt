@@ -5,10 +5,10 @@ use mathlib.Core.Logic.{_↔_}
 use mathlib.Core.List.{List, _++_}
 use mathlib.Core.Bool.{Bool, true, false, not, _&&_, cond, true≢false}
 use native.Mathlib.Omega.{arith}
-use borrow.Author.Tests.{not-false, not-true, eqb-false}
+use borrow.Author.Tests.{not-false, eqb-false}
 use Rattle.sets.specs.Sets.{has, meet, empty, lowest}
-use Rattle.sets.specs.Truth.{and-left, and-right, is-false}
-use Rattle.sets.specs.Laws.{lowest-has, empty-members, meet-lt, minus-lt}
+use Rattle.sets.specs.Truth.{is-false}
+use Rattle.sets.specs.Laws.{lowest-has, empty-members, members-empty, meet-lt, minus-lt}
 use Rattle.moves.specs.declared.Marking.{Marking}
 use Rattle.moves.specs.declared.Entry.{Entry}
 use Rattle.moves.specs.declared.Move.{Move}
@@ -18,14 +18,14 @@ use Rattle.moves.specs.declared.Refusal.the-variants.{IllFormed, Unknown, NotHe
 use Rattle.moves.specs.declared.Refusal.the-variants.{Room}
 use Rattle.moves.specs.declared.Verdict.{Verdict}
 use Rattle.moves.specs.First.{Line, first, numberOf, waitingOf, numberOfVerdict}
-use Rattle.moves.specs.Move.{waitsFor, after, moveOf, markingFits, numberOfMove, waitingOfMove}
-use Rattle.moves.specs.Given.{numbersBelow, first-clear, first-late, clear-head, clear-tail, clear-front, clear-back}
+use Rattle.moves.specs.Move.{waitsFor, markingFits, numberOfMove, waitingOfMove}
+use Rattle.moves.specs.Given.{numbersBelow, first-clear, first-late, clear-head, clear-front, clear-back}
 use Rattle.rules.specs.Graph.{Graph, graphLines, graphVerdict, conditionsOf, rolesOf, rolesHeld}
-use Rattle.rules.specs.Answers.{rowOf, entryKnown, entryLines, markingLines, moveLines, theMove}
+use Rattle.rules.specs.Answers.{entryKnown, entryLines, markingLines, moveLines, theMove}
 use Rattle.rules.specs.Signs.{_∈_, Ex, In}
-use Rattle.rules.specs.Paper.{condition, Allowed, Ready, has-waits, move-number}
+use Rattle.rules.specs.Paper.{condition, Allowed, Ready, has-waits, lines-allowed, move-number}
 use Rattle.rules.specs.Entries.{refused-first}
-use Rattle.rules.specs.Sound.{Sound, clear-sound}
+use Rattle.rules.specs.Sound.{clear-sound}
 
 -- ---- what is said
 
@@ -50,19 +50,11 @@ pub record Otherwise (g : Graph) (m : Marking) (e : Entry) : Type 0 where
 -- where nothing is waited for it is allowed
 pub otherwise-allowed : (g : Graph) (m : Marking) (e : Entry) → Otherwise g m e → ((a : ℕ) → waitedFor g m (e .step .0) a ≡ false)
     → Allowed g m e
+unfolding first
 otherwise-allowed g m e o free =
-    record {
-      person-as = o .person-as;
-      action-as = o .action-as;
-      included = o .included;
-      conditions = λ a in-m from. go (condition g a (e .step .0)) (a ∈ In m) (a ∈ Ex m) (free a) in-m from;
-    }
-  where
-    go : (p q r : Bool) → ((p && q) && not r) ≡ false → q ≡ true → p ≡ true → r ≡ true
-    go true true true e f h = refl
-    go true true false e f h = sym e
-    go true false r e f h = absurd (true≢false (sym f))
-    go false q r e f h = absurd (true≢false (sym h))
+    let none : empty (waitsFor (conditionsOf g (e .step .0)) m) ≡ true =
+    members-empty (waitsFor (conditionsOf g (e .step .0)) m) (λ a. has-waits (conditionsOf g (e .step .0)) m a ∙ free a) in
+    lines-allowed g m e (simp (o .person-as, o .action-as, o .included, none))
 
 -- ---- the line of the table
 
@@ -89,9 +81,6 @@ waited g m e r q is =
     (has (m .included) (e .step .0)) refl
     (empty (waitsFor (conditionsOf g (e .step .0)) m)) refl q
   where
-    awaited : ℕ
-    awaited = waitsFor (conditionsOf g (e .step .0)) m
-
     go : (k : Bool) → entryKnown g e ≡ k → (h : Bool) → has (rolesHeld g (e .person)) (e .role) ≡ h → (o : Bool)
         → has (rolesOf g (e .step .0)) (e .role) ≡ o
         → (i : Bool) → has (m .included) (e .step .0) ≡ i
