@@ -111,7 +111,8 @@ restore-tells g r j m = go (first (restoreLines g r j m)) refl
     follow : (b : Bool) → graphVerdict g ≡ Verdict.Clear → Inside (g .steps) (gives r m)
         → RunTells g j (cond b (runFrom g (gives r m) 0 (entries j)) (Ran.Stopped 0 NotApplied m))
     follow true clear inside = entries-tell g (gives r m) j clear inside
-    follow false clear inside = other-tells g m (entryWith j 0 .step .0) NotApplied (λ is. let z : 16 ≡ 15 = is in let w : ⊥ = omega arith in w)
+    follow false clear inside =
+        other-tells g m (entryWith j 0 .step .0) NotApplied (λ is. let z : 16 ≡ 15 = is in let w : ⊥ = omega arith in w)
 
     go : (v : Verdict) → first (restoreLines g r j m) ≡ v
         → RunTells g j (ranOf v (cond (applies r m) (runFrom g (gives r m) 0 (entries j)) (Ran.Stopped 0 NotApplied m)))

@@ -32,7 +32,8 @@ pub stays-done : (g : Graph) (m m′ : Marking) (es : List Entry) (a : ℕ) → 
     → (a ∈ Ex m′) ≡ true
 unfolding Passes occurs
 stays-done g m m′ [] a p d =
-    or-split (a ∈ Ex m) false ((a ∈ Ex m′) ≡ true) d (λ here. ap (λ (x : Marking). a ∈ Ex x) (sym p) ∙ here) (λ no. absurd (true≢false (sym no)))
+    or-split (a ∈ Ex m) false ((a ∈ Ex m′) ≡ true) d (λ here. ap (λ (x : Marking). a ∈ Ex x) (sym p) ∙ here)
+    (λ no. absurd (true≢false (sym no)))
 stays-done g m m′ (e ∷ rest) a p d = stays-done g (p .0) m′ rest a (p .2) (later (a ∈ Ex m) (eqb (e .step .0) a) (occurs a rest) next d)
   where
     next : (a ∈ Ex (p .0)) ≡ ((a ∈ Ex m) || eqb (e .step .0) a)
