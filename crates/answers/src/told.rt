@@ -105,7 +105,7 @@ pub fn applied(o: Applied) -> Moved
             waiting: 0,
             marking: next,
         },
-        Applied::Refused(r, m) => Moved {
+        Applied::Refused(m, r) => Moved {
             number: said(r).number,
             waiting: 0,
             marking: m,
@@ -126,7 +126,7 @@ pub fn ran(o: journal::Ran) -> Ran
             entries: count as u64,
             marking: end,
         },
-        journal::Ran::Stopped(index, r, before) => {
+        journal::Ran::Stopped(index, before, r) => {
             let w = said(r);
             Ran {
                 number: w.number,

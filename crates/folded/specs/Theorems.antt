@@ -46,7 +46,7 @@ use Rattle.folding.specs.Answered.{fold-graph, fold-length, fold-clear, restore
 -- the end marking of a run that ends
 unfoldable pub endOf : Ran → Option Marking
 endOf (Ran.Ended m k) = some m
-endOf (Ran.Stopped k r m) = none
+endOf (Ran.Stopped k m r) = none
 
 -- the entries pass exactly if the run ends, and it ends where they end
 pub passes-end : (g : Graph) (m : Marking) (k : ℕ) (es : List Entry) → endOfAll g m es ≡ endOf (runOn g m k es)
@@ -163,7 +163,7 @@ restore-ended g a b p m x n ea ended =
 -- where it stops, the record does not apply
 pub restore-stopped : (g : Graph) (a b : List ℕ) (p : Record) (m x : Marking) (k : ℕ) (q : Refusal) → theFold g a ≡ Recorded.Made p
     → markingFits (g .steps) m ≡ true → lengthFits b ≡ true
-    → theRun g m a ≡ Ran.Stopped k q x → theRestoring g p b m ≡ Ran.Stopped 0 NotApplied m
+    → theRun g m a ≡ Ran.Stopped k x q → theRestoring g p b m ≡ Ran.Stopped 0 m NotApplied
 unfolding endOf
 restore-stopped g a b p m x k q ea within long stopped =
     let f : Folding g a p = folding g a p ea in
@@ -178,4 +178,4 @@ restore-appends g a b p m ea long = journals-append g m a b (folding g a p ea .l
   where
     go : (v : Ran) → theRun g m a ≡ v → andThen v (λ x n. further n (theRun g x b)) ≡ andThen v (λ x n. further n (theRestoring g p b m))
     go (Ran.Ended x n) e = ap (further n) (sym (restore-ended g a b p m x n ea e))
-    go (Ran.Stopped k r x) e = refl
+    go (Ran.Stopped k x r) e = refl

@@ -50,9 +50,9 @@ fold-clear g j e f =
 module _ (g : Graph) (r : Record) (j : List ℕ) (m : Marking) where
   -- what is answered where nothing below 11 is against it
   abbrev tried : Ran
-  tried = cond (applies r m) (runFrom g (gives r m) 0 (entries j)) (Ran.Stopped 0 NotApplied m)
+  tried = cond (applies r m) (runFrom g (gives r m) 0 (entries j)) (Ran.Stopped 0 m NotApplied)
 
-  pub restore-graph : (q : Refusal) → graphVerdict g ≡ Verdict.Refused q → theRestoring g r j m ≡ Ran.Stopped 0 q noMarking
+  pub restore-graph : (q : Refusal) → graphVerdict g ≡ Verdict.Refused q → theRestoring g r j m ≡ Ran.Stopped 0 noMarking q
   unfolding theRestoring ranOf
   restore-graph q e = ap (λ (v : Verdict). ranOf v tried)
       (first-refused (graphLines g) (lengthLines j ++ markingLines g m ++ (IllFormed, not (wellFormed (g .steps) r)) ∷ []) q e)
@@ -67,27 +67,27 @@ module _ (g : Graph) (r : Record) (j : List ℕ) (m : Marking) where
       (first-clear (graphLines g) (lengthLines j ++ markingLines g m ++ (IllFormed, not (wellFormed (g .steps) r)) ∷ []) e)
       ∙ (λ i. ranOf (first ((Length, not (p i)) ∷ (Outside, not (q i)) ∷ (IllFormed, not (s i)) ∷ [])) tried)
 
-  pub restore-length : graphVerdict g ≡ Verdict.Clear → lengthFits j ≡ false → theRestoring g r j m ≡ Ran.Stopped 0 Length noMarking
+  pub restore-length : graphVerdict g ≡ Verdict.Clear → lengthFits j ≡ false → theRestoring g r j m ≡ Ran.Stopped 0 noMarking Length
   unfolding ranOf first
   restore-length e p = restore-lines false (markingFits (g .steps) m) (wellFormed (g .steps) r) e p refl refl
 
   pub restore-outside : graphVerdict g ≡ Verdict.Clear → lengthFits j ≡ true → markingFits (g .steps) m ≡ false
-      → theRestoring g r j m ≡ Ran.Stopped 0 Outside noMarking
+      → theRestoring g r j m ≡ Ran.Stopped 0 noMarking Outside
   unfolding ranOf first
   restore-outside e p q = restore-lines true false (wellFormed (g .steps) r) e p q refl
 
   pub restore-ill : graphVerdict g ≡ Verdict.Clear → lengthFits j ≡ true → markingFits (g .steps) m ≡ true → wellFormed (g .steps) r ≡ false
-      → theRestoring g r j m ≡ Ran.Stopped 0 IllFormed noMarking
+      → theRestoring g r j m ≡ Ran.Stopped 0 noMarking IllFormed
   unfolding ranOf first
   restore-ill e p q s = restore-lines true true false e p q s
 
   pub restore-on : (a : Bool) → graphVerdict g ≡ Verdict.Clear → lengthFits j ≡ true → markingFits (g .steps) m ≡ true
       → wellFormed (g .steps) r ≡ true → applies r m ≡ a
-      → theRestoring g r j m ≡ cond a (runOn g (gives r m) 0 (entries j)) (Ran.Stopped 0 NotApplied m)
+      → theRestoring g r j m ≡ cond a (runOn g (gives r m) 0 (entries j)) (Ran.Stopped 0 m NotApplied)
   unfolding ranOf first
   restore-on a e p q s t =
       restore-lines true true true e p q s
-      ∙ ap (λ (b : Bool). cond b (runFrom g (gives r m) 0 (entries j)) (Ran.Stopped 0 NotApplied m)) t
-      ∙ ap (λ (o : Ran). cond a o (Ran.Stopped 0 NotApplied m))
+      ∙ ap (λ (b : Bool). cond b (runFrom g (gives r m) 0 (entries j)) (Ran.Stopped 0 m NotApplied)) t
+      ∙ ap (λ (o : Ran). cond a o (Ran.Stopped 0 m NotApplied))
       (run-from g (gives r m) 0 (entries j) e
       (gives-inside (g .steps) r m (well-formed (g .steps) r s .bounded) (fits-inside (g .steps) m q)))

@@ -32,4 +32,4 @@ restoreLines g r j m = graphLines g ++ lengthLines j ++ markingLines g m ++ (Ill
 -- 16 gives back the marking handed in; no entry is looked at before the record has applied
 unfoldable pub theRestoring : Graph → Record → List ℕ → Marking → Ran
 theRestoring g r j m =
-    ranOf (first (restoreLines g r j m)) (cond (applies r m) (runFrom g (gives r m) 0 (entries j)) (Ran.Stopped 0 NotApplied m))
+    ranOf (first (restoreLines g r j m)) (cond (applies r m) (runFrom g (gives r m) 0 (entries j)) (Ran.Stopped 0 m NotApplied))

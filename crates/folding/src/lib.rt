@@ -40,19 +40,19 @@ pub fn restore<'a, 'b>(g: &'a Job, r: Record, j: &'b [u8], m: Marking) -> Ran
     let steps = g[0];
     let v = rules::check(g);
     if let Verdict::Refused(q) = v {
-        return Ran::Stopped(0, q, NONE);
+        return Ran::Stopped(0, NONE, q);
     }
     if !length_fits(j) {
-        return Ran::Stopped(0, Refusal::Length, NONE);
+        return Ran::Stopped(0, NONE, Refusal::Length);
     }
     if !moves::inner::fits(steps, m) {
-        return Ran::Stopped(0, Refusal::Outside, NONE);
+        return Ran::Stopped(0, NONE, Refusal::Outside);
     }
     if !well_formed(steps, r) {
-        return Ran::Stopped(0, Refusal::IllFormed, NONE);
+        return Ran::Stopped(0, NONE, Refusal::IllFormed);
     }
     if !suits(r, m) {
-        return Ran::Stopped(0, Refusal::NotApplied, m);
+        return Ran::Stopped(0, m, Refusal::NotApplied);
     }
     journal::quick::run_entries(g, given(r, m), j)
 }

@@ -51,7 +51,7 @@ module _ (g : Graph) (m : Marking) (j : List ℕ) where
   -- restore: 2, 4, 6, 7, 8, 10, then 16, then the entries
   pub restore-given : (r : Record)
       → TableFirst (restoreLines g r j m) (theRestoring g r j m)
-      (cond (applies r m) (runFrom g (gives r m) 0 (entries j)) (Ran.Stopped 0 NotApplied m))
+      (cond (applies r m) (runFrom g (gives r m) 0 (entries j)) (Ran.Stopped 0 m NotApplied))
   unfolding ascends numberOf theRestoring
   restore-given r = table-first (restoreLines g r j m) _ refl
 

@@ -117,7 +117,7 @@ entries-drop (p ∷ s ∷ r ∷ rest) (suc k) h =
 -- entry k of the journal is not allowed: the run stops there
 pub run-refused : (g : Graph) (m back : Marking) (r : Refusal) (j : List ℕ) (k : ℕ) → 3 * k + 3 ≤ length j
     → entryMove g m (entryAt j k) ≡ Move.Refused back r
-    → runOn g m k (entries (drop (3 * k) j)) ≡ Ran.Stopped k r m
+    → runOn g m k (entries (drop (3 * k) j)) ≡ Ran.Stopped k m r
 unfolding runOn goOn
 run-refused g m back r j k h e =
     ap (runOn g m k) (entries-from j k h) ∙ ap (λ (o : Move). goOn k m o (λ n. runOn g n (k + 1) (entries (drop (3 * k + 3) j)))) e
@@ -148,13 +148,13 @@ run-ended g m j k h = ap (λ (t : List ℕ). runOn g m k (entries t)) (drop-of-l
 -- ---- a run, by what is found of the graph, the journal and the marking
 
 pub run-graph : (g : Graph) (m : Marking) (j : List ℕ) (r : Refusal) → graphVerdict g ≡ Verdict.Refused r
-    → theRun g m j ≡ Ran.Stopped 0 r noMarking
+    → theRun g m j ≡ Ran.Stopped 0 noMarking r
 unfolding theRun ranOf
 run-graph g m j r e =
     ap (λ (v : Verdict). ranOf v (runFrom g m 0 (entries j))) (first-refused (graphLines g) (lengthLines j ++ markingLines g m) r e)
 
 pub run-length : (g : Graph) (m : Marking) (j : List ℕ) → graphVerdict g ≡ Verdict.Clear → lengthFits j ≡ false
-    → theRun g m j ≡ Ran.Stopped 0 Length noMarking
+    → theRun g m j ≡ Ran.Stopped 0 noMarking Length
 unfolding theRun ranOf first
 run-length g m j e f =
     ap (λ (v : Verdict). ranOf v (runFrom g m 0 (entries j))) (first-clear (graphLines g) (lengthLines j ++ markingLines g m) e
@@ -162,7 +162,7 @@ run-length g m j e f =
 
 pub run-outside : (g : Graph) (m : Marking) (j : List ℕ) → graphVerdict g ≡ Verdict.Clear → lengthFits j ≡ true
     → markingFits (g .steps) m ≡ false
-    → theRun g m j ≡ Ran.Stopped 0 Outside noMarking
+    → theRun g m j ≡ Ran.Stopped 0 noMarking Outside
 unfolding theRun ranOf first
 run-outside g m j e f o =
     ap (λ (v : Verdict). ranOf v (runFrom g m 0 (entries j))) (first-clear (graphLines g) (lengthLines j ++ markingLines g m) e

@@ -17,7 +17,7 @@ use Rattle.journal.specs.Journal.{entries, lengthFits}
 -- entry k in marking m: where it is allowed the run goes on with the marking after, else it stops with the marking before
 unfoldable pub goOn : ℕ → Marking → Move → (Marking → Ran) → Ran
 goOn k m (Move.Moved next) rest = rest next
-goOn k m (Move.Refused back r) rest = Ran.Stopped k r m
+goOn k m (Move.Refused back r) rest = Ran.Stopped k m r
 
 -- the entries are taken in turn until one is not allowed: its index, its refusal and the marking it met are the answer. Where none is
 -- refused, the last marking and the count of entries are. Here of the entries from entry k on, in marking m
@@ -38,7 +38,7 @@ runLines g m j = graphLines g ++ lengthLines j ++ markingLines g m
 -- a refusal below 11 holds zeros in every further place
 unfoldable pub ranOf : Verdict → Ran → Ran
 ranOf Verdict.Clear ran = ran
-ranOf (Verdict.Refused r) ran = Ran.Stopped 0 r noMarking
+ranOf (Verdict.Refused r) ran = Ran.Stopped 0 noMarking r
 
 -- any journal on anything
 unfoldable pub theRun : Graph → Marking → List ℕ → Ran
@@ -49,19 +49,19 @@ theRun g m j = ranOf (first (runLines g m j)) (runFrom g m 0 (entries j))
 -- 0 where all pass
 unfoldable pub numberOfRun : Ran → ℕ
 numberOfRun (Ran.Ended m k) = 0
-numberOfRun (Ran.Stopped k r m) = numberOf r
+numberOfRun (Ran.Stopped k m r) = numberOf r
 
 -- the number of entries, or the index of the refused one
 unfoldable pub indexOfRun : Ran → ℕ
 indexOfRun (Ran.Ended m k) = k
-indexOfRun (Ran.Stopped k r m) = k
+indexOfRun (Ran.Stopped k m r) = k
 
 -- the steps that 15 waits for
 unfoldable pub waitingOfRun : Ran → ℕ
 waitingOfRun (Ran.Ended m k) = 0
-waitingOfRun (Ran.Stopped k r m) = waitingOf r
+waitingOfRun (Ran.Stopped k m r) = waitingOf r
 
 -- the end marking, or the marking before the refused entry
 unfoldable pub markingOfRun : Ran → Marking
 markingOfRun (Ran.Ended m k) = m
-markingOfRun (Ran.Stopped k r m) = m
+markingOfRun (Ran.Stopped k m r) = m

@@ -19,7 +19,7 @@ pub mod quick;
 // the marking before it (below 11: zeros).
 pub enum Ran {
     Ended(Marking, u16),
-    Stopped(u16, Refusal, Marking),
+    Stopped(u16, Marking, Refusal),
 }
 
 // What a walk says: the entry at its place; that there is none left; or 7.
@@ -47,13 +47,13 @@ pub fn run<'a, 'b>(g: &'a Job, m: Marking, j: &'b [u8]) -> Ran
 {
     let v = rules::check(g);
     if let Verdict::Refused(r) = v {
-        return Ran::Stopped(0, r, NONE);
+        return Ran::Stopped(0, NONE, r);
     }
     if !length_fits(j) {
-        return Ran::Stopped(0, Refusal::Length, NONE);
+        return Ran::Stopped(0, NONE, Refusal::Length);
     }
     if !moves::inner::fits(g[0], m) {
-        return Ran::Stopped(0, Refusal::Outside, NONE);
+        return Ran::Stopped(0, NONE, Refusal::Outside);
     }
     run_entries(g, m, j)
 }

@@ -134,7 +134,7 @@ pub fn refused(g: &Job, m: Marking, e: Entry, index: u16) -> Ran
 {
     match enter(g, m, e) {
         Move::Moved(next) => Ran::Ended(next, index),
-        Move::Refused(_, r) => Ran::Stopped(index, r, m),
+        Move::Refused(_, r) => Ran::Stopped(index, m, r),
     }
 }
 

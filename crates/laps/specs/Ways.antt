@@ -83,7 +83,7 @@ upon-stopped leg p rest k r q = ap (λ (l : Leg). upon l p rest) q
 
 unfoldable uponRun : Ran → Pass → (Marking → Lapped) → Lapped
 uponRun (Ran.Ended m k) p rest = rest m
-uponRun (Ran.Stopped k r m) p rest = Lapped.Stopped k p r
+uponRun (Ran.Stopped k m r) p rest = Lapped.Stopped k p r
 
 leg-run : (g : Graph) (p : Pass) (rest : Marking → Lapped) (es : List Entry) (m : Marking) (x k : ℕ)
     → upon (legOn g m x k es) p (λ end y. rest end) ≡ uponRun (runOn g m k es) p rest
@@ -104,7 +104,7 @@ module _ (g : Graph) (m : Marking) (es : List Entry) (p : Pass) (rest : Marking 
   unfolding uponRun
   upon-run-ended next k q = leg-run g p rest es m (full 64) 0 ∙ ap (λ (o : Ran). uponRun o p rest) q
 
-  pub upon-run-stopped : (k : ℕ) (r : Refusal) (back : Marking) → runOn g m 0 es ≡ Ran.Stopped k r back
+  pub upon-run-stopped : (k : ℕ) (r : Refusal) (back : Marking) → runOn g m 0 es ≡ Ran.Stopped k back r
       → upon (legOf g m es) p (λ end x. rest end) ≡ Lapped.Stopped k p r
   unfolding uponRun
   upon-run-stopped k r back q = leg-run g p rest es m (full 64) 0 ∙ ap (λ (o : Ran). uponRun o p rest) q

@@ -114,7 +114,7 @@ fn first_lap<'a>(g: &'a Job, m: Marking, lap: &[u8]) -> Lapped
 {
     let ran = run_entries(g, m, lap);
     match ran {
-        Ran::Stopped(k, r, _) => Lapped::Stopped(k, Pass::First, r),
+        Ran::Stopped(k, _, r) => Lapped::Stopped(k, Pass::First, r),
         Ran::Ended(again, _) => second_lap(g, again, lap),
     }
 }
@@ -128,7 +128,7 @@ pub fn decide<'a>(g: &'a Job, m: Marking, stem: &[u8], lap: &[u8]) -> Lapped
 {
     let ran = run_entries(g, m, stem);
     match ran {
-        Ran::Stopped(k, r, _) => Lapped::Stopped(k, Pass::Stem, r),
+        Ran::Stopped(k, _, r) => Lapped::Stopped(k, Pass::Stem, r),
         Ran::Ended(start, _) => first_lap(g, start, lap),
     }
 }

@@ -40,7 +40,7 @@ fn say_unapplied(page: &mut Page, p: Places, record: Record, r: Refusal, m: Mark
 fn say_applied(page: &mut Page, p: Places, record: Record, o: Applied, t: Target) -> Answer {
     match o {
         Applied::Gives(m) => say_given(page, m, t),
-        Applied::Refused(r, m) => say_unapplied(page, p, record, r, m),
+        Applied::Refused(m, r) => say_unapplied(page, p, record, r, m),
     }
 }
 
@@ -75,7 +75,7 @@ pub fn apply(page: &mut Page, p: Places, n: u64, bytes: &[u8], m: Marking, t: Ta
     let o = Record::IDENTITY.apply(m, n);
     match o {
         Applied::Gives(_) => apply_read(page, p, n, bytes, m, t),
-        Applied::Refused(r, _) => say_unfit(page, p, n, m, r),
+        Applied::Refused(_, r) => say_unfit(page, p, n, m, r),
     }
 }
 
@@ -89,7 +89,7 @@ fn restore_read(
     t: Target,
 ) -> Answer {
     let o = folding::restore(g, record, j, m);
-    if let Ran::Stopped(_, r, at) = o {
+    if let Ran::Stopped(_, at, r) = o {
         if moves::tell(r).number == 16 {
             return say_unapplied(page, p, record, r, at);
         }

@@ -92,7 +92,7 @@ fn say_because(page: &mut Page, g: &Job, j: &[u8], k: u16, r: Refusal) {
 pub fn say_never(page: &mut Page, g: &Job, j: &[u8]) -> Answer {
     say(page, b"never: yes\n");
     let o = journal::run(g, everything(g[0]), j);
-    if let Ran::Stopped(k, r, _) = o {
+    if let Ran::Stopped(k, _, r) = o {
         say_because(page, g, j, k, r);
     }
     complain(

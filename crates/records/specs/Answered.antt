@@ -38,7 +38,7 @@ unfolding theApplication appliedOf first numberOf
 applies-on n r m c f g = simp (c, f, g) (go (applies r m))
   where
     go : (p : Bool) → appliedOf (cond (not p) (Verdict.Refused NotApplied) Verdict.Clear) m (gives r m) ≡ cond p (Applied.Gives (gives r m))
-        (Applied.Refused NotApplied m)
+        (Applied.Refused m NotApplied)
     go true = refl
     go false = refl
 

@@ -39,11 +39,11 @@ applyLines n r m =
 -- 16 gives back the marking handed in; below 11 zeros
 unfoldable pub appliedOf : Verdict → Marking → Marking → Applied
 appliedOf Verdict.Clear before next = Applied.Gives next
-appliedOf (Verdict.Refused q) before next = Applied.Refused q (cond (leb 11 (numberOf q)) before noMarking)
+appliedOf (Verdict.Refused q) before next = Applied.Refused (cond (leb 11 (numberOf q)) before noMarking) q
 
 -- a record that is well-formed at a marking that fits: 16
 abbrev pub appliedOn : Record → Marking → Applied
-appliedOn r m = cond (applies r m) (Applied.Gives (gives r m)) (Applied.Refused NotApplied m)
+appliedOn r m = cond (applies r m) (Applied.Gives (gives r m)) (Applied.Refused m NotApplied)
 
 unfoldable pub theApplication : ℕ → Record → Marking → Applied
 theApplication n r m = appliedOf (first (applyLines n r m)) m (gives r m)
@@ -56,9 +56,9 @@ numberOfRecorded (Recorded.Refused q) = numberOf q
 
 unfoldable pub numberOfApplied : Applied → ℕ
 numberOfApplied (Applied.Gives m) = 0
-numberOfApplied (Applied.Refused q m) = numberOf q
+numberOfApplied (Applied.Refused m q) = numberOf q
 
 -- the marking after, or what is given back
 unfoldable pub markingOfApplied : Applied → Marking
 markingOfApplied (Applied.Gives m) = m
-markingOfApplied (Applied.Refused q m) = m
+markingOfApplied (Applied.Refused m q) = m

@@ -80,7 +80,7 @@ pub fn applied(r: Record, m: Marking) -> Applied
     ensures { λ x. ⌜ x ≡ appliedOn r m ⌝ }
 {
     if !suits(r, m) {
-        return Applied::Refused(Refusal::NotApplied, m);
+        return Applied::Refused(m, Refusal::NotApplied);
     }
     Applied::Gives(given(r, m))
 }
@@ -91,7 +91,7 @@ pub fn applied_at(n: u64, r: Record, m: Marking) -> Applied
     ensures { λ x. ⌜ x ≡ theApplication n r m ⌝ }
 {
     if !moves::inner::fits(n, m) {
-        return Applied::Refused(Refusal::Outside, NONE);
+        return Applied::Refused(NONE, Refusal::Outside);
     }
     applied(r, m)
 }

@@ -29,7 +29,7 @@ pub enum Recorded {
 // A record applied, with the marking after; or refused, with the marking handed in (below 11: an empty one).
 pub enum Applied {
     Gives(Marking),
-    Refused(Refusal, Marking),
+    Refused(Marking, Refusal),
 }
 
 impl Record {
@@ -65,13 +65,13 @@ impl Record {
         ensures { λ r. ⌜ r ≡ theApplication n self m ⌝ }
     {
         if !inner::counts(n) {
-            return Applied::Refused(Refusal::Counts, NONE);
+            return Applied::Refused(NONE, Refusal::Counts);
         }
         if !moves::inner::fits(n, m) {
-            return Applied::Refused(Refusal::Outside, NONE);
+            return Applied::Refused(NONE, Refusal::Outside);
         }
         if !inner::well_formed(n, self) {
-            return Applied::Refused(Refusal::IllFormed, NONE);
+            return Applied::Refused(NONE, Refusal::IllFormed);
         }
         inner::applied(self, m)
     }

@@ -115,6 +115,6 @@ pub fn may(page: &mut Page, p: Places, g: &Job, m: Marking, j: &[u8]) -> Answer 
     let o = journal::run(g, m, j);
     match o {
         Ran::Ended(end, entries) => say_open(page, g, end, entries),
-        Ran::Stopped(k, r, before) => say_halted(page, p, g, m, j, k, r, before),
+        Ran::Stopped(k, before, r) => say_halted(page, p, g, m, j, k, r, before),
     }
 }

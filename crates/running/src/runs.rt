@@ -90,7 +90,7 @@ fn say_ended(page: &mut Page, g: &Job, m: Marking, entries: u16, t: Target) -> A
 pub fn say_ran(page: &mut Page, p: Places, g: &Job, o: Ran, j: &[u8], t: Target) -> Answer {
     match o {
         Ran::Ended(m, entries) => say_ended(page, g, m, entries, t),
-        Ran::Stopped(k, r, m) => say_stopped(page, p, g, j, k, r, m),
+        Ran::Stopped(k, m, r) => say_stopped(page, p, g, j, k, r, m),
     }
 }
 
@@ -115,7 +115,7 @@ pub fn run(page: &mut Page, p: Places, g: &Job, m: Marking, j: &[u8], t: Target)
     let o = journal::run(g, m, j);
     match o {
         Ran::Ended(end, entries) => say_ended(page, g, end, entries, t),
-        Ran::Stopped(k, r, before) => say_halted(page, p, g, m, j, k, r, before),
+        Ran::Stopped(k, before, r) => say_halted(page, p, g, m, j, k, r, before),
     }
 }
 
@@ -124,6 +124,6 @@ pub fn finished(page: &mut Page, p: Places, g: &Job, m: Marking, j: &[u8]) -> An
     let o = journal::run(g, m, j);
     match o {
         Ran::Ended(end, _) => say_ending(page, rules::finished(g, end), end),
-        Ran::Stopped(k, r, before) => say_halted(page, p, g, m, j, k, r, before),
+        Ran::Stopped(k, before, r) => say_halted(page, p, g, m, j, k, r, before),
     }
 }

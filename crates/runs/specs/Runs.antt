@@ -34,7 +34,7 @@ use Rattle.journal.specs.Laws.{fits-threes, fits-most, entries-append, run-grap
 -- where the first run ends, the second goes on
 unfoldable pub andThen : Ran → (Marking → ℕ → Ran) → Ran
 andThen (Ran.Ended m k) second = second m k
-andThen (Ran.Stopped k r m) second = Ran.Stopped k r m
+andThen (Ran.Stopped k m r) second = Ran.Stopped k m r
 
 pub run-append : (g : Graph) (m : Marking) (k : ℕ) (a b : List Entry)
     → runFrom g m k (a ++ b) ≡ andThen (runFrom g m k a) (λ m′ k′. runFrom g m′ k′ b)
@@ -51,7 +51,7 @@ run-append g m k (e ∷ a) b = go (theMove g m e) (λ next. run-append g next (k
 -- a run whose entries stand n further on
 unfoldable pub further : ℕ → Ran → Ran
 further n (Ran.Ended m k) = Ran.Ended m (n + k)
-further n (Ran.Stopped k r m) = Ran.Stopped (n + k) r m
+further n (Ran.Stopped k m r) = Ran.Stopped (n + k) m r
 
 pub run-later : (g : Graph) (m : Marking) (n k : ℕ) (es : List Entry) → runFrom g m (n + k) es ≡ further n (runFrom g m k es)
 unfolding runFrom goOn further
@@ -91,7 +91,7 @@ run-passes g m m′ k n (x ∷ rest) e = go (theMove g m x) refl (λ next. run-p
         let count : n ≡ k + 1 + length rest = f .0 in
         (let z : n ≡ k + suc (length rest) = omega arith in z, (next, q, f .1))
     go (Move.Refused back r) q more =
-        absurd (let s : Ran.Stopped k r m ≡ Ran.Ended m′ n = ap (λ (o : Move). goOn k m o (λ y. runFrom g y (k + 1) rest)) (sym q) ∙ e in
+        absurd (let s : Ran.Stopped k m r ≡ Ran.Ended m′ n = ap (λ (o : Move). goOn k m o (λ y. runFrom g y (k + 1) rest)) (sym q) ∙ e in
         let z : _≡_ {A = ℕ} 0 1 = cc in let w : ⊥ = omega arith in w)
 
 pub passes-run : (g : Graph) (m m′ : Marking) (k : ℕ) (es : List Entry) → Passes g m es m′ → runFrom g m k es ≡ Ran.Ended m′ (k + length es)
@@ -105,7 +105,7 @@ passes-run g m m′ k (e ∷ rest) p =
 -- a run that stops stops at the first entry not allowed
 pub run-stops : (g : Graph) (m m′ : Marking) (k n : ℕ) (r : Refusal) (es : List Entry) → graphVerdict g ≡ Verdict.Clear
     → Inside (g .steps) m
-    → runFrom g m k es ≡ Ran.Stopped n r m′ → (i : ℕ) × (n ≡ k + i) × StopsAt g m es i r m′
+    → runFrom g m k es ≡ Ran.Stopped n m′ r → (i : ℕ) × (n ≡ k + i) × StopsAt g m es i r m′
 unfolding runFrom goOn Passes
 run-stops g m m′ k n r [] clear within e = absurd (let z : _≡_ {A = ℕ} 0 1 = cc in let w : ⊥ = omega arith in w)
 run-stops g m m′ k n r (x ∷ rest) clear within e = go (theMove g m x) refl (λ next. run-stops g next m′ (k + 1) n r rest clear)
@@ -114,7 +114,7 @@ run-stops g m m′ k n r (x ∷ rest) clear within e = go (theMove g m x) refl (
     by-entry = move-inside g m x clear (inside-fits (g .steps) m within)
 
     go : (o : Move) → theMove g m x ≡ o
-        → ((next : Marking) → Inside (g .steps) next → runFrom g next (k + 1) rest ≡ Ran.Stopped n r m′ → (i : ℕ) × (n ≡ k + 1 + i)
+        → ((next : Marking) → Inside (g .steps) next → runFrom g next (k + 1) rest ≡ Ran.Stopped n m′ r → (i : ℕ) × (n ≡ k + 1 + i)
         × StopsAt g next rest i r m′)
         → (i : ℕ) × (n ≡ k + i) × StopsAt g m (x ∷ rest) i r m′
     go (Move.Moved next) q more =
@@ -132,7 +132,7 @@ run-stops g m m′ k n r (x ∷ rest) clear within e = go (theMove g m x) refl (
           },
         )
     go (Move.Refused back p) q more =
-        let s : Ran.Stopped k p m ≡ Ran.Stopped n r m′ = ap (λ (o : Move). goOn k m o (λ y. runFrom g y (k + 1) rest)) (sym q) ∙ e in
+        let s : Ran.Stopped k m p ≡ Ran.Stopped n m′ r = ap (λ (o : Move). goOn k m o (λ y. runFrom g y (k + 1) rest)) (sym q) ∙ e in
         let here : k ≡ n = cc in
         let why : p ≡ r = cc in
         let left : m ≡ m′ = cc in
@@ -143,19 +143,19 @@ run-stops g m m′ k n r (x ∷ rest) clear within e = go (theMove g m x) refl (
         )
 
 pub stops-run : (g : Graph) (m m′ : Marking) (k i : ℕ) (r : Refusal) (es : List Entry) → StopsAt g m es i r m′
-    → runFrom g m k es ≡ Ran.Stopped (k + i) r m′
+    → runFrom g m k es ≡ Ran.Stopped (k + i) m′ r
 unfolding runFrom goOn Passes
 stops-run g m m′ k i r [] s = absurd (let low : i < 0 = s .small in let w : ⊥ = omega arith in w)
 stops-run g m m′ k zero r (e ∷ rest) s =
     ap (λ (x : Marking). goOn k x (theMove g x e) (λ y. runFrom g y (k + 1) rest)) (s .before)
     ∙ ap (λ (o : Move). goOn k m′ o (λ y. runFrom g y (k + 1) rest)) (s .refused e)
-    ∙ ap (λ (x : ℕ). Ran.Stopped x r m′) (sym (add-zero k))
+    ∙ ap (λ (x : ℕ). Ran.Stopped x m′ r) (sym (add-zero k))
 stops-run g m m′ k (suc i) r (e ∷ rest) s =
     let low : suc i < suc (length rest) = s .small in
     ap (λ (o : Move). goOn k m o (λ y. runFrom g y (k + 1) rest)) (s .before .1)
     ∙ stops-run g (s .before .0) m′ (k + 1) i r rest
     (record { small = (let z : i < length rest = omega arith in z); before = s .before .2; refused = s .refused })
-    ∙ ap (λ (x : ℕ). Ran.Stopped x r m′) (let z : k + 1 + i ≡ k + suc i = omega arith in z)
+    ∙ ap (λ (x : ℕ). Ran.Stopped x m′ r) (let z : k + 1 + i ≡ k + suc i = omega arith in z)
 
 -- ---- the marking a run leaves
 
@@ -201,11 +201,11 @@ ended-passes g m m′ n j e = go (first (runLines g m j)) refl
         let count : n ≡ 0 + length (entries j) = p .0 in
         (ready g m j q, let z : n ≡ length (entries j) = omega arith in z, p .1)
     go (Verdict.Refused r) q =
-        absurd (let s : Ran.Stopped 0 r noMarking ≡ Ran.Ended m′ n = ap (λ (v : Verdict). ranOf v (runFrom g m 0 (entries j))) (sym q)
+        absurd (let s : Ran.Stopped 0 noMarking r ≡ Ran.Ended m′ n = ap (λ (v : Verdict). ranOf v (runFrom g m 0 (entries j))) (sym q)
         ∙ e in let z : _≡_ {A = ℕ} 0 1 = cc in let w : ⊥ = omega arith in w)
 
 -- a run that stops at an entry stops at the first not allowed
-pub stopped-first : (g : Graph) (m m′ : Marking) (n : ℕ) (r : Refusal) (j : List ℕ) → theRun g m j ≡ Ran.Stopped n r m′ → 11 ≤ numberOf r
+pub stopped-first : (g : Graph) (m m′ : Marking) (n : ℕ) (r : Refusal) (j : List ℕ) → theRun g m j ≡ Ran.Stopped n m′ r → 11 ≤ numberOf r
     → Runnable g m j × StopsAt g m (entries j) n r m′
 unfolding theRun ranOf numbersBelow numberOf
 stopped-first g m m′ n r j e high = go (first (runLines g m j)) refl
@@ -218,7 +218,7 @@ stopped-first g m m′ n r j e high = go (first (runLines g m j)) refl
         let place : n ≡ 0 + s .0 = s .1 in
         (known, subst (λ (x : ℕ). StopsAt g m (entries j) x r m′) (let z : s .0 ≡ n = omega arith in z) (s .2))
     go (Verdict.Refused p) q =
-        let s : Ran.Stopped 0 p noMarking ≡ Ran.Stopped n r m′ = ap (λ (v : Verdict). ranOf v (runFrom g m 0 (entries j))) (sym q) ∙ e in
+        let s : Ran.Stopped 0 noMarking p ≡ Ran.Stopped n m′ r = ap (λ (v : Verdict). ranOf v (runFrom g m 0 (entries j))) (sym q) ∙ e in
         let same : p ≡ r = cc in
         let low : numberOf r < 11 = subst (λ (x : Refusal). numberOf x < 11) same (first-below 11 (runLines g m j) p refl q) in
         absurd (let w : ⊥ = omega arith in w)
@@ -262,7 +262,7 @@ journals-append g m a b fa fab = graph (graphVerdict g) refl
         ap (λ (x : ℕ). runFrom g m′ x (entries b)) (sym (add-zero n))
         ∙ run-later g m′ n 0 (entries b)
         ∙ ap (further n) (sym (run-clear g m′ b clear fb (inside-fits (g .steps) m′ i)))
-    second clear (Ran.Stopped k r m′) i = refl
+    second clear (Ran.Stopped k m′ r) i = refl
 
     marking : graphVerdict g ≡ Verdict.Clear → (t : Bool) → markingFits (g .steps) m ≡ t
         → theRun g m (a ++ b) ≡ andThen (theRun g m a) (λ m′ n. further n (theRun g m′ b))

@@ -60,7 +60,7 @@ walk-hands-none (suc n) j k f =
     ap (λ (s : Stride). handedBefore (s .said) (handed n j (s .place))) (walk-length j k f) ∙ walk-hands-none n j k f
 
 -- where a run stops, the walk hands out the entry that it stopped at, after those that passed
-pub stopped-walk : (g : Graph) (m m′ : Marking) (k : ℕ) (r : Refusal) (j : List ℕ) → theRun g m j ≡ Ran.Stopped k r m′ → 11 ≤ numberOf r
+pub stopped-walk : (g : Graph) (m m′ : Marking) (k : ℕ) (r : Refusal) (j : List ℕ) → theRun g m j ≡ Ran.Stopped k m′ r → 11 ≤ numberOf r
     → Passes g m (handed k j 0) m′ × (strideAt j k .said ≡ Walked.At (entryAt j k)) × (theMove g m′ (entryAt j k) ≡ Move.Refused m′ r)
 stopped-walk g m m′ k r j e high =
     let known = stopped-first g m m′ k r j e high in

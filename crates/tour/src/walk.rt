@@ -86,7 +86,7 @@ fn start_again(page: &mut Page, g: &Job, r: Record) -> Answer {
     let o = folding::restore(g, r, b"", START);
     match o {
         Ran::Ended(m, _) => go_on(page, g, m),
-        Ran::Stopped(_, refusal, _) => say_refused(page, 0, refusal),
+        Ran::Stopped(_, _, refusal) => say_refused(page, 0, refusal),
     }
 }
 

@@ -85,7 +85,7 @@ entries-tell g m j clear inside = go (runFrom g m 0 (entries j)) refl
   where
     go : (o : Ran) → runFrom g m 0 (entries j) ≡ o → RunTells g j o
     go (Ran.Ended m′ n) e = nothing-told g m′ (entryWith j n .step .0)
-    go (Ran.Stopped n r m′) e =
+    go (Ran.Stopped n m′ r) e =
         let stop = run-stops g m m′ 0 n r (entries j) clear inside e in
         let place : n ≡ 0 + stop .0 = stop .1 in
         let here : stop .0 ≡ n = omega arith in
@@ -109,13 +109,13 @@ unfolding theRestoring ranOf numberOfRun waitingOfRun indexOfRun markingOfRun ho
 restore-tells g r j m = go (first (restoreLines g r j m)) refl
   where
     follow : (b : Bool) → graphVerdict g ≡ Verdict.Clear → Inside (g .steps) (gives r m)
-        → RunTells g j (cond b (runFrom g (gives r m) 0 (entries j)) (Ran.Stopped 0 NotApplied m))
+        → RunTells g j (cond b (runFrom g (gives r m) 0 (entries j)) (Ran.Stopped 0 m NotApplied))
     follow true clear inside = entries-tell g (gives r m) j clear inside
     follow false clear inside =
         other-tells g m (entryWith j 0 .step .0) NotApplied (λ is. let z : 16 ≡ 15 = is in let w : ⊥ = omega arith in w)
 
     go : (v : Verdict) → first (restoreLines g r j m) ≡ v
-        → RunTells g j (ranOf v (cond (applies r m) (runFrom g (gives r m) 0 (entries j)) (Ran.Stopped 0 NotApplied m)))
+        → RunTells g j (ranOf v (cond (applies r m) (runFrom g (gives r m) 0 (entries j)) (Ran.Stopped 0 m NotApplied)))
     go Verdict.Clear e =
         let clear = clear-front (graphLines g) _ e in
         let fit = clear-tail _ _ (clear-back (graphLines g) _ e) in

@@ -43,13 +43,10 @@ fn untouched(g: &Graph, mut m: Marking, lap: &[[u8; 3]]) -> Result<u64, Lapped> 
     let mut steps = u64::MAX;
     for (index, bytes) in lap.iter().enumerate() {
         let pending = m.due & m.included;
-        match enter(g, m, entry(bytes)) {
-            Ok(after) => m = after,
-            Err(refusal) => {
-                let (number, waiting) = (refusal.number(), refusal.waiting());
-                return Err(Lapped { number, waiting, index: index as u64, pass: 2, ..Lapped::default() });
-            }
-        }
+        m = enter(g, m, entry(bytes)).map_err(|refusal| {
+            let (number, waiting) = (refusal.number(), refusal.waiting());
+            Lapped { number, waiting, index: index as u64, pass: 2, ..Lapped::default() }
+        })?;
         steps &= pending & !(1 << bytes[1]);
     }
     Ok(steps)

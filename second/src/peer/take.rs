@@ -26,7 +26,7 @@ fn taken(g: &Graph, m: Marking, e: Entry) -> Result<Marking, Refusal> {
 }
 
 /// The move on a graph and a marking that have been checked.
-#[inline]
+#[inline(always)]
 pub fn enter(g: &Graph, m: Marking, e: Entry) -> Result<Marking, Refusal> {
     if !known(g, e) {
         return Err(Refusal::Unknown);
