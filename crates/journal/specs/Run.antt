@@ -56,7 +56,7 @@ unfoldable pub indexOfRun : Ran → ℕ
 indexOfRun (Ran.Ended m k) = k
 indexOfRun (Ran.Stopped k m r) = k
 
--- the steps that 15 waits for
+-- with 15 the steps that are waited for
 unfoldable pub waitingOfRun : Ran → ℕ
 waitingOfRun (Ran.Ended m k) = 0
 waitingOfRun (Ran.Stopped k m r) = waitingOf r

@@ -15,8 +15,8 @@ use rules::Job;
 pub mod inner;
 pub mod quick;
 
-// All entries pass, with the end marking and their number; or the first that is not allowed, with its index, its refusal and
-// the marking before it (below 11: zeros).
+// All entries pass, with the end marking and their number; or the first that is not allowed, with its index, the marking before it
+// (below 11: zeros) and its refusal.
 pub enum Ran {
     Ended(Marking, u16),
     Stopped(u16, Marking, Refusal),

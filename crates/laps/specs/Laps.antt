@@ -50,7 +50,7 @@ numberOfLap (Lapped.Starved s) = 0
 numberOfLap (Lapped.Refused r) = numberOf r
 numberOfLap (Lapped.Stopped k p r) = numberOf r
 
--- the steps that 15 waits for
+-- with 15 the steps that are waited for
 unfoldable pub waitingOfLap : Lapped → ℕ
 waitingOfLap Lapped.Accepted = 0
 waitingOfLap (Lapped.Starved s) = 0

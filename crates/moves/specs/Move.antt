@@ -87,7 +87,7 @@ unfoldable pub numberOfMove : Move → ℕ
 numberOfMove (Move.Moved m) = 0
 numberOfMove (Move.Refused m r) = numberOf r
 
--- the steps that 15 waits for
+-- with 15 the steps that are waited for
 unfoldable pub waitingOfMove : Move → ℕ
 waitingOfMove (Move.Moved m) = 0
 waitingOfMove (Move.Refused m r) = waitingOf r

@@ -62,7 +62,7 @@ pub enum Verdict {
 }
 
 // A step taken, with the marking after; or refused, with the marking handed in (below 11: an empty one). The marking stands first in
-// both, so that it lies in one place whatever the answer is: else each move is moved once more.
+// both, so that it lies in one place whatever the answer is.
 pub enum Move {
     Moved(Marking),
     Refused(Marking, Refusal),

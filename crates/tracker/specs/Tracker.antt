@@ -107,7 +107,7 @@ numberOfTracked (Tracked.At t) = 0
 numberOfTracked (Tracked.Refused r) = numberOf r
 numberOfTracked (Tracked.Stays t r) = numberOf r
 
--- the steps that 15 waits for
+-- with 15 the steps that are waited for
 unfoldable pub waitingOfTracked : Tracked → ℕ
 waitingOfTracked (Tracked.At t) = 0
 waitingOfTracked (Tracked.Refused r) = waitingOf r
