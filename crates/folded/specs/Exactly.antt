@@ -19,7 +19,7 @@ use Rattle.moves.specs.Move.{markingFits, after, isIncluded, waitsFor, personHo
 use Rattle.moves.specs.Inside.{inside-fits}
 use Rattle.rules.specs.Graph.{Graph, graphVerdict, conditionsOf, includesOf, excludesOf}
 use Rattle.rules.specs.Answers.{entryKnown, entryMove}
-use Rattle.rules.specs.Entries.{known-step}
+use Rattle.rules.specs.Entries.{known-named}
 use Rattle.rules.specs.Sound.{Sound, clear-sound}
 use Rattle.journal.specs.Journal.{entries, lengthFits}
 use Rattle.journal.specs.Run.{theRun}
@@ -196,8 +196,8 @@ free-passes g (e ∷ es) out m sound free h =
     go true p true q on = absurd (true≢false (sym (ap₂ (λ (a b : Bool). (not a || b) || barred g (shutAfter g out e) es) p q) ∙ h))
     go true p false q on =
         let there : s < g .steps =
-        known-step g e (and-left (entryKnown g e) (personHolds (rowMet g e) e)
-        (and-left (entryKnown g e && personHolds (rowMet g e) e) (stepHas (rowMet g e) e) p)) in
+        known-named g e (and-left (entryKnown g e) (personHolds (rowMet g e) e)
+        (and-left (entryKnown g e && personHolds (rowMet g e) e) (stepHas (rowMet g e) e) p)) .step-in in
         let rest : barred g (shutAfter g out e) es ≡ false =
         ap₂ (λ (a b : Bool). (not a || b) || barred g (shutAfter g out e) es) (sym p) (sym q) ∙ h in
         let goes = on rest in

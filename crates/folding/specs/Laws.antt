@@ -22,8 +22,9 @@ use Rattle.moves.specs.declared.Refusal.the-variants.{Unknown, NotHeld, NotOnSt
 use Rattle.moves.specs.declared.Verdict.{Verdict}
 use Rattle.moves.specs.declared.Move.{Move}
 use Rattle.moves.specs.First.{first}
-use Rattle.rules.specs.Answers.{entryKnown, entryMove, entryLines}
-use Rattle.moves.specs.Move.{personHolds, stepHas, isIncluded, waitsFor, after, moveOf}
+use Rattle.rules.specs.Answers.{entryKnown, entryAsked, entryMove}
+use Rattle.moves.specs.Move.{personHolds, stepHas, isIncluded, waitsFor, after, askedOf, moveOf}
+use Rattle.rules.specs.Entries.{entry-after}
 use Rattle.rules.specs.Sound.{Sound}
 use Rattle.journal.specs.Journal.{entries, entryAt}
 use Rattle.journal.specs.Laws.{entries-from}
@@ -74,12 +75,12 @@ applies-step w s m = simp (single-within s (m .included), and-true)
 
 -- an entry passes exactly if none of its lines holds
 moved-by-lines : (p q r i w : Bool) (awaited : ℕ) (m next : Marking)
-    → movedTo (moveOf (cond (not p) (Verdict.Refused Unknown)
+    → movedTo (moveOf (askedOf (cond (not p) (Verdict.Refused Unknown)
     (cond (not q) (Verdict.Refused NotHeld)
     (cond (not r) (Verdict.Refused NotOnStep)
-    (cond (not i) (Verdict.Refused Excluded) (cond (not w) (Verdict.Refused (Waits awaited)) Verdict.Clear))))) m next)
+    (cond (not i) (Verdict.Refused Excluded) (cond (not w) (Verdict.Refused (Waits awaited)) Verdict.Clear)))))) m next)
     ≡ cond (p && q && r) (cond (i && w) (some next) none) none
-unfolding movedTo moveOf
+unfolding movedTo askedOf moveOf
 moved-by-lines false q r i w awaited m next = refl
 moved-by-lines true false r i w awaited m next = refl
 moved-by-lines true true false i w awaited m next = refl
@@ -91,7 +92,7 @@ moved-by-lines true true true true true awaited m next = refl
 pub moved-if : (g : Graph) (e : Entry) (m : Marking) → movedTo (entryMove g m e)
     ≡ cond (possible g e)
     (cond (isIncluded m e && empty (waitsFor (rowMet g e .conditions) m)) (some (after (rowMet g e) m (e .step .0))) none) none
-unfolding entryMove first
+unfolding entryMove entryAsked first
 moved-if g e m =
     moved-by-lines (entryKnown g e) (personHolds (rowMet g e) e) (stepHas (rowMet g e) e) (isIncluded m e)
     (empty (waitsFor (rowMet g e .conditions) m)) _ m
@@ -317,14 +318,9 @@ after-twice g es m =
     sym (gives-effect g es (afterAll g m es)) ∙ ap (gives (effect g es)) (sym (gives-effect g es m)) ∙ gives-again (effect g es) m
     ∙ gives-effect g es m
 
-moved-is : (v : Verdict) (m next x : Marking) → moveOf v m next ≡ Move.Moved x → x ≡ next
-unfolding moveOf
-moved-is Verdict.Clear m next x e = cc
-moved-is (Verdict.Refused r) m next x e = absurd (let z : _≡_ {A = ℕ} 0 1 = cc in let w : ⊥ = omega arith in w)
-
 -- where all pass, they end at the marking after all of them
 pub passes-after : (g : Graph) (es : List Entry) (m x : Marking) → endOfAll g m es ≡ some x → x ≡ afterAll g m es
-unfolding endOfAll afterAll bind movedTo entryMove
+unfolding endOfAll afterAll bind movedTo
 passes-after g [] m x e = sym (Option·some-injective m x e)
 passes-after g (e ∷ es) m x p = go (entryMove g m e) refl (passes-after g es) p
   where
@@ -332,5 +328,5 @@ passes-after g (e ∷ es) m x p = go (entryMove g m e) refl (passes-after g es) 
         → bind (movedTo o) (λ next. endOfAll g next es) ≡ some x
         → x ≡ afterAll g (after (rowMet g e) m (e .step .0)) es
     go (Move.Moved next) q rest p = rest next x p
-        ∙ ap (λ (n : Marking). afterAll g n es) (moved-is (first (entryLines g m e)) m (after (rowMet g e) m (e .step .0)) next q)
+        ∙ ap (λ (n : Marking). afterAll g n es) (sym (entry-after g m next e q .1))
     go (Move.Refused back r) q rest p = absurd (Option·none-ne-some x p)

@@ -10,11 +10,12 @@ use Rattle.moves.specs.declared.Marking.{Marking}
 use Rattle.moves.specs.declared.Entry.{Entry}
 use Rattle.moves.specs.declared.Verdict.{Verdict}
 use Rattle.moves.specs.First.{Line, first, numberOfVerdict, numberOf}
-use Rattle.moves.specs.Move.{numberOfMove}
+use Rattle.moves.specs.Move.{numberOfAsked, numberOfMove}
 use Rattle.moves.specs.Given.{holds, ascends, Lowest, given-exactly}
 use Rattle.tables.specs.Tables.{countsFit, kindsApart}
 use Rattle.rules.specs.Graph.{Graph, graphLines, graphVerdict, setsFit}
-use Rattle.rules.specs.Answers.{moveLines, theMove, theEnding, numberOfEnding}
+use Rattle.rules.specs.Answers.{moveLines, theAsked, theMove, theEnding, numberOfEnding}
+use Rattle.rules.specs.Asking.{asked-lines}
 use Rattle.rules.specs.Paper.{move-number, ending-number}
 use Rattle.kept.specs.Keep.{theKept}
 use Rattle.journal.specs.declared.Stride.{Stride}
@@ -55,7 +56,12 @@ module _ (g : Graph) where
   unfolding holds numberOf
   check-6 = or-false (not (kindsApart (g .steps) (g .includes) (g .excludes)))
 
-  -- take: 2, 4, 6, 8, 11 to 15
+  -- ask: 2, 4, 6, 8, 11 to 15
+  pub ask-given : (m : Marking) (e : Entry) → Exactly (numberOfAsked (theAsked g m e)) (moveLines g m e)
+  unfolding ascends numberOf
+  ask-given m e = exactly (moveLines g m e) (numberOfAsked (theAsked g m e)) refl (asked-lines g m e)
+
+  -- take: the same
   pub take-given : (m : Marking) (e : Entry) → Exactly (numberOfMove (theMove g m e)) (moveLines g m e)
   unfolding ascends numberOf
   take-given m e = exactly (moveLines g m e) (numberOfMove (theMove g m e)) refl (move-number g m e)

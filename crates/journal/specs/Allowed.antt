@@ -18,14 +18,16 @@ use Rattle.moves.specs.declared.Marking.{Marking}
 use Rattle.moves.specs.declared.Entry.{Entry}
 use Rattle.moves.specs.declared.Refusal.{Refusal}
 use Rattle.moves.specs.declared.Verdict.{Verdict}
+use Rattle.moves.specs.declared.Asked.{Asked}
 use Rattle.moves.specs.declared.Move.{Move}
 use Rattle.moves.specs.First.{Line, first}
 use Rattle.tables.specs.Tables.{row, keeps, rolesFit}
-use Rattle.rules.specs.Answers.{rowOf, entryKnown, entryLines, entryMove}
-use Rattle.moves.specs.Move.{isIncluded, waitsFor, after, moveOf}
+use Rattle.rules.specs.Answers.{rowOf, entryKnown, entryLines, afterEntry, entryAsked, refusalIn, entryMove}
+use Rattle.moves.specs.Move.{isIncluded, waitsFor, askedOf, givenBack, moveOf}
 use Rattle.tables.specs.Laws.{Counted}
 use Rattle.rules.specs.Laws.{clear-counts}
 use Rattle.moves.specs.Given.{clear-head, clear-tail}
+use Rattle.rules.specs.Entries.{Named, known-named}
 use Rattle.rules.specs.Sound.{clear-sound}
 
 -- no line of the table holds
@@ -37,7 +39,7 @@ nothingIn (l ∷ rest) = not (l .1) && nothingIn rest
 abbrev pub isAllowed : Graph → Marking → Entry → Bool
 isAllowed g m e = nothingIn (entryLines g m e)
 
--- ---- what that says of the move
+-- ---- what that says of asking and taking
 
 nothing-clear : (a : List Line) → nothingIn a ≡ true → first a ≡ Verdict.Clear
 unfolding nothingIn first
@@ -58,18 +60,30 @@ something-refused (l ∷ a) e = go (l .1) refl (something-refused a)
         let later = rest (ap (λ (b : Bool). not b && nothingIn a) (sym p) ∙ e) in
         (later .0, ap (λ (b : Bool). cond b (Verdict.Refused (l .0)) (first a)) p ∙ later .1)
 
-pub allowed-moved : (g : Graph) (m : Marking) (e : Entry) → isAllowed g m e ≡ true
-    → entryMove g m e ≡ Move.Moved (after (rowOf g (e .person) (e .step .0)) m (e .step .0))
-unfolding entryMove moveOf
-allowed-moved g m e ok =
-    ap (λ (v : Verdict). moveOf v m (after (rowOf g (e .person) (e .step .0)) m (e .step .0))) (nothing-clear (entryLines g m e) ok)
+-- the quick test and `ask` say the same
+pub quick-allowed : (g : Graph) (m : Marking) (e : Entry) → isAllowed g m e ≡ true → entryAsked g m e ≡ Asked.Allowed
+unfolding entryAsked askedOf
+quick-allowed g m e ok = ap askedOf (nothing-clear (entryLines g m e) ok)
 
-pub refused-moved : (g : Graph) (m : Marking) (e : Entry) → isAllowed g m e ≡ false → (r : Refusal) × (back : Marking)
-    × (entryMove g m e ≡ Move.Refused back r)
-unfolding entryMove moveOf
-refused-moved g m e out =
+pub quick-refused : (g : Graph) (m : Marking) (e : Entry) → isAllowed g m e ≡ false → (r : Refusal) × (entryAsked g m e ≡ Asked.Refused r)
+unfolding entryAsked askedOf
+quick-refused g m e out =
     let f = something-refused (entryLines g m e) out in
-    (f .0, _, ap (λ (v : Verdict). moveOf v m (after (rowOf g (e .person) (e .step .0)) m (e .step .0))) (f .1))
+    (f .0, ap askedOf (f .1))
+
+-- so what it allows is taken
+pub allowed-moved : (g : Graph) (m : Marking) (e : Entry) → isAllowed g m e ≡ true → entryMove g m e ≡ Move.Moved (afterEntry g m e)
+unfolding entryMove moveOf
+allowed-moved g m e ok = ap (λ (o : Asked). moveOf o m (afterEntry g m e)) (quick-allowed g m e ok)
+
+-- and what it does not is refused, by the refusal that `ask` gives
+pub refused-moved : (g : Graph) (m : Marking) (e : Entry) → isAllowed g m e ≡ false
+    → (back : Marking) × (entryMove g m e ≡ Move.Refused back (refusalIn (entryAsked g m e)))
+unfolding entryMove moveOf refusalIn
+refused-moved g m e out =
+    let f = quick-refused g m e out in
+    let back : Marking = givenBack m (f .0) in
+    (back, ap (λ (o : Asked). moveOf o m (afterEntry g m e)) (f .1) ∙ ap (Move.Refused back) (sym (ap refusalIn (f .1))))
 
 -- ---- its five tests
 
@@ -90,29 +104,14 @@ allowed-parts : (g : Graph) (m : Marking) (e : Entry)
     && (has (rolesHeld g (e .person)) (e .role) && (has (rolesOf g (e .step .0)) (e .role) && (isIncluded m e && noneWaits g m e))))
 unfolding nothingIn
 allowed-parts g m e =
-    parts (entryKnown g e) (has (rolesHeld g (e .person)) (e .role)) (has (rolesOf g (e .step .0)) (e .role)) (isIncluded m e) (noneWaits g m e)
+    parts (entryKnown g e) (has (rolesHeld g (e .person)) (e .role)) (has (rolesOf g (e .step .0)) (e .role)) (isIncluded m e)
+    (noneWaits g m e)
 
 is-not : (b : Bool) → (b ≡ true → ⊥) → b ≡ false
 is-not true h = absurd (h refl)
 is-not false h = refl
 
 -- an allowed entry names what there is
-pub record Named (g : Graph) (e : Entry) : Type 0 where
-  pub person-in : e .person < g .people
-  pub step-in : e .step .0 < g .steps
-  pub role-in : e .role < g .roles
-
-known-named : (g : Graph) (e : Entry) → entryKnown g e ≡ true → Named g e
-known-named g e k =
-    let p = ltb (e .person) (g .people) in
-    let s = ltb (e .step .0) (g .steps) in
-    let r = ltb (e .role) (g .roles) in
-    record {
-      person-in = ltb-true (e .person) (g .people) (and-left p s (and-left (p && s) r k));
-      step-in = ltb-true (e .step .0) (g .steps) (and-right p s (and-left (p && s) r k));
-      role-in = ltb-true (e .role) (g .roles) (and-right (p && s) r k);
-    }
-
 pub allowed-named : (g : Graph) (m : Marking) (e : Entry) → isAllowed g m e ≡ true → Named g e
 allowed-named g m e ok = known-named g e (and-left (entryKnown g e) _ (sym (allowed-parts g m e) ∙ ok))
 

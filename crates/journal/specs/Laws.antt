@@ -18,7 +18,7 @@ use Rattle.moves.specs.declared.Refusal.the-variants.{Length, Outside}
 use Rattle.moves.specs.declared.Verdict.{Verdict}
 use Rattle.moves.specs.declared.Move.{Move}
 use Rattle.moves.specs.First.{first}
-use Rattle.rules.specs.Answers.{entryMove, markingLines}
+use Rattle.rules.specs.Answers.{entryAsked, refusalIn, entryMove, markingLines}
 use Rattle.moves.specs.Move.{markingFits, noMarking}
 use Rattle.moves.specs.Given.{first-clear, first-refused}
 use Rattle.journal.specs.declared.Ran.{Ran}
@@ -122,13 +122,12 @@ unfolding runOn goOn
 run-refused g m back r j k h e =
     ap (runOn g m k) (entries-from j k h) ∙ ap (λ (o : Move). goOn k m o (λ n. runOn g n (k + 1) (entries (drop (3 * k + 3) j)))) e
 
--- whatever the refusal, which is the move's to say
+-- with the refusal that `ask` gives
 pub run-stopped : (g : Graph) (m : Marking) (j : List ℕ) (k : ℕ) → 3 * k + 3 ≤ length j → isAllowed g m (entryAt j k) ≡ false
-    → runOn g m k (entries (drop (3 * k) j)) ≡ goOn k m (entryMove g m (entryAt j k)) (λ next. Ran.Ended next k)
-unfolding goOn
+    → runOn g m k (entries (drop (3 * k) j)) ≡ Ran.Stopped k m (refusalIn (entryAsked g m (entryAt j k)))
 run-stopped g m j k h out =
     let f = refused-moved g m (entryAt j k) out in
-    run-refused g m (f .1) (f .0) j k h (f .2) ∙ ap (λ (o : Move). goOn k m o (λ next. Ran.Ended next k)) (sym (f .2))
+    run-refused g m (f .0) (refusalIn (entryAsked g m (entryAt j k))) j k h (f .1)
 
 -- it is: the run goes on behind it
 pub run-moved : (g : Graph) (m next : Marking) (j : List ℕ) (k : ℕ) → 3 * k + 3 ≤ length j → entryMove g m (entryAt j k) ≡ Move.Moved next

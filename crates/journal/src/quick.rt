@@ -1,14 +1,10 @@
 // A run on a graph with nothing against it: an allowed entry meets five tests, and which refusal another one meets is asked only then.
 ghost use mathlib.Core.Path.{_≡_};
-ghost use Prim.Native.Nat.{_%_, _<_, _≤_};
+ghost use Prim.Native.Nat.{_%_, _≤_};
 ghost use lib.ListN.{length};
 ghost use Rattle.moves.specs.declared.Verdict.{Verdict};
 ghost use Rattle.rules.specs.Graph.{graphOf, graphVerdict};
-ghost use Rattle.rules.specs.Answers.{rowOf, entryMove};
-ghost use Rattle.moves.specs.Move.{after};
-ghost use Rattle.journal.specs.declared.Ran.{Ran};
 ghost use Rattle.journal.specs.Journal.{entries};
-ghost use Rattle.journal.specs.Run.{goOn};
 ghost use Rattle.journal.specs.Inner.{runOn};
 ghost use Rattle.journal.specs.Allowed.{isAllowed};
 ghost use Rattle.journal.specs.Singles.{Singles};
@@ -16,12 +12,11 @@ use crate::Ran;
 use crate::inner::entry_at;
 use moves::Entry;
 use moves::Marking;
-use moves::Move;
-use moves::inner::moved;
 use moves::inner::waits;
 use rules::Job;
-use rules::inner::enter;
+use rules::inner::against;
 use rules::inner::row_at;
+use rules::inner::taken;
 
 // The sets with one step each. A test by a look into this table is quicker than one by a shift, since the compiler shares a shift
 // with the move after the test and then does both in more instructions.
@@ -117,27 +112,6 @@ pub fn allowed<'a, 'b>(singles: &'b [u64; 64], g: &'a Job, m: Marking, e: Entry)
     waits(w.conditions, m) == 0
 }
 
-// The marking after an entry that is allowed.
-pub fn taken(g: &Job, m: Marking, e: Entry) -> Marking
-    requires { ⌜ (e .person < 16) × (e .step .0 < 64) ⌝ }
-    ensures { λ r. ⌜ r ≡ after (rowOf (graphOf (now (g .entry))) (e .person) (e .step .0)) m (e .step .0) ⌝ }
-{
-    let p = e.person;
-    let s = e.step.0;
-    moved(row_at(g, p, s), m, s)
-}
-
-// Where a run stops at an entry that is not.
-pub fn refused(g: &Job, m: Marking, e: Entry, index: u16) -> Ran
-    requires { ⌜ graphVerdict (graphOf (now g)) ≡ Verdict.Clear ⌝ }
-    ensures { λ r. ⌜ r ≡ goOn index m (entryMove (graphOf (now (g .entry))) m e) (λ next. Ran.Ended next index) ⌝ }
-{
-    match enter(g, m, e) {
-        Move::Moved(next) => Ran::Ended(next, index),
-        Move::Refused(_, r) => Ran::Stopped(index, m, r),
-    }
-}
-
 // The entries, on a graph and a journal with nothing against them. Refusals 11 to 15.
 pub fn run_entries<'a, 'b>(g: &'a Job, m: Marking, j: &'b [u8]) -> Ran
     requires { ⌜ (graphVerdict (graphOf (now g)) ≡ Verdict.Clear) × (length (now j) % 3 ≡ 0) × (length (now j) ≤ 65535) ⌝ }
@@ -151,7 +125,7 @@ pub fn run_entries<'a, 'b>(g: &'a Job, m: Marking, j: &'b [u8]) -> Ran
         let e = entry_at(j, k);
         if !allowed(&singles, g, at, e) {
             let index = k as u16;
-            return refused(g, at, e, index);
+            return Ran::Stopped(index, at, against(g, at, e));
         }
         at = taken(g, at, e);
         k += 1;

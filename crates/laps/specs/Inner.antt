@@ -12,13 +12,13 @@ use Rattle.moves.specs.declared.Refusal.{Refusal}
 use Rattle.moves.specs.declared.Verdict.{Verdict}
 use Rattle.moves.specs.declared.Move.{Move}
 use Rattle.moves.specs.First.{first, numberOf}
-use Rattle.moves.specs.Move.{moveOf, noMarking}
+use Rattle.moves.specs.Move.{askedOf, moveOf, noMarking}
 use Rattle.moves.specs.Given.{ascends, first-above, clear-head, clear-back}
 use Rattle.moves.specs.Inside.{Inside, inside-fits}
 use Rattle.rules.specs.Graph.{Graph, graphLines, graphVerdict}
-use Rattle.rules.specs.Answers.{entryKnown, entryLines, entryMove, markingLines}
+use Rattle.rules.specs.Answers.{entryKnown, entryLines, entryAsked, entryMove, markingLines}
 use Rattle.rules.specs.Laws.{move-inside}
-use Rattle.rules.specs.Entries.{moved-clear, known-step}
+use Rattle.rules.specs.Entries.{moved-clear, known-named}
 use Rattle.rules.specs.Sound.{clear-sound, after-inside}
 use Rattle.laps.specs.Endless.{stepAt, markingAt, movedAt, TakenAt}
 
@@ -36,14 +36,14 @@ module _ (g : Graph) (m : Marking) (e : ℕ → Entry) where
   UnbarredUntil i = (j : ℕ) → j < i → verdictAt j ≡ Verdict.Clear
 
   run-moves : (i : ℕ) → verdictAt i ≡ Verdict.Clear → entryMove g (markingAt g m e i) (e i) ≡ Move.Moved (markingAt g m e (suc i))
-  unfolding entryMove moveOf markingAt
-  run-moves i q = ap (λ (v : Verdict). moveOf v (markingAt g m e i) (markingAt g m e (suc i))) q
+  unfolding entryMove entryAsked askedOf moveOf markingAt
+  run-moves i q = ap (λ (v : Verdict). moveOf (askedOf v) (markingAt g m e i) (markingAt g m e (suc i))) q
 
   run-refuses : (i : ℕ) (r : Refusal) → verdictAt i ≡ Verdict.Refused r
       → entryMove g (markingAt g m e i) (e i) ≡ Move.Refused (markingAt g m e i) r
-  unfolding entryMove moveOf markingAt ascends numberOf
+  unfolding entryMove entryAsked askedOf moveOf markingAt ascends numberOf
   run-refuses i r q =
-      ap (λ (v : Verdict). moveOf v (markingAt g m e i) (markingAt g m e (suc i))) q
+      ap (λ (v : Verdict). moveOf (askedOf v) (markingAt g m e i) (markingAt g m e (suc i))) q
       ∙ ap (λ (b : Bool). Move.Refused (cond b (markingAt g m e i) noMarking) r)
       (le-leb 11 (numberOf r) (let h : 10 < numberOf r = first-above 10 (entryLines g (markingAt g m e i) (e i)) r refl q in omega arith))
 
@@ -60,7 +60,7 @@ module _ (g : Graph) (m : Marking) (e : ℕ → Entry) where
     inside-until zero all = inside
     inside-until (suc i) all =
         after-inside g (markingAt g m e i) (e i .person) (stepAt g m e i) (clear-sound g clear)
-        (known-step g (e i) (not-false (entryKnown g (e i)) (clear-head _ _ (all i (let z : i < suc i = omega arith in z)))))
+        (known-named g (e i) (not-false (entryKnown g (e i)) (clear-head _ _ (all i (let z : i < suc i = omega arith in z)))) .step-in)
         (inside-until i (λ j h. all j (let z : j < suc i = omega arith in z)))
 
     by-entry : (i : ℕ) → UnbarredUntil i → movedAt g m e i ≡ entryMove g (markingAt g m e i) (e i)

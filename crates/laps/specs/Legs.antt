@@ -19,8 +19,8 @@ use Rattle.moves.specs.declared.Marking.{Marking}
 use Rattle.moves.specs.declared.Entry.{Entry}
 use Rattle.moves.specs.declared.Refusal.{Refusal}
 use Rattle.moves.specs.declared.Verdict.{Verdict}
-use Rattle.rules.specs.Answers.{rowOf, entryMove}
-use Rattle.moves.specs.Move.{after, moveOf}
+use Rattle.rules.specs.Answers.{rowOf, entryAsked, entryMove}
+use Rattle.moves.specs.Move.{after, askedOf, moveOf}
 use Rattle.folding.specs.Effect.{afterAll}
 use Rattle.laps.specs.declared.inner.Leg.{Leg}
 use Rattle.laps.specs.Endless.{stepAt, markingAt, DueAt, DoneAt, ExcludedAt, Waiting}
@@ -183,7 +183,7 @@ module _ (g : Graph) (m : Marking) (e : ℕ → Entry) where
     pub here : says (i + depth) ≡ Verdict.Refused refusal
 
   leg-walks : (n i w k : ℕ) → Passed i n w (legOn g (M i) w k (chunk e n i)) ⊎ Barred i n k (legOn g (M i) w k (chunk e n i))
-  unfolding legOn chunk goThrough entryMove moveOf markingAt
+  unfolding legOn chunk goThrough entryMove entryAsked askedOf moveOf markingAt
   leg-walks zero i w k =
       inl (record {
         left = w;
@@ -207,9 +207,9 @@ module _ (g : Graph) (m : Marking) (e : ℕ → Entry) where
           at (no p) = ap says (let z : j ≡ i = omega arith in z) ∙ q
 
       go : (v : Verdict) → says i ≡ v → Passed (suc i) n (still w (M i) (stepAt g m e i)) rest ⊎ Barred (suc i) n (k + 1) rest
-          → Passed i (suc n) w (goThrough k (moveOf v (M i) (M (suc i)))
+          → Passed i (suc n) w (goThrough k (moveOf (askedOf v) (M i) (M (suc i)))
           (λ next. legOn g next (still w (M i) (stepAt g m e i)) (k + 1) (chunk e n (suc i))))
-          ⊎ Barred i (suc n) k (goThrough k (moveOf v (M i) (M (suc i)))
+          ⊎ Barred i (suc n) k (goThrough k (moveOf (askedOf v) (M i) (M (suc i)))
           (λ next. legOn g next (still w (M i) (stepAt g m e i)) (k + 1) (chunk e n (suc i))))
       go Verdict.Clear q (inl p) =
           inl (record {

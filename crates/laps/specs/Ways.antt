@@ -17,7 +17,7 @@ use Rattle.moves.specs.declared.Refusal.the-variants.{Length, Outside, EmptyLap
 use Rattle.moves.specs.declared.Verdict.{Verdict}
 use Rattle.moves.specs.declared.Move.{Move}
 use Rattle.moves.specs.First.{first}
-use Rattle.rules.specs.Answers.{entryMove, markingLines}
+use Rattle.rules.specs.Answers.{entryAsked, refusalIn, entryMove, markingLines}
 use Rattle.moves.specs.Move.{markingFits}
 use Rattle.moves.specs.Given.{first-clear, first-refused}
 use Rattle.journal.specs.declared.Ran.{Ran}
@@ -54,13 +54,12 @@ module _ (g : Graph) (m : Marking) (x : ℕ) (j : List ℕ) (k : ℕ) where
       ap (legOn g m x k) (entries-from j k h)
       ∙ ap (λ (o : Move). goThrough k o (λ n. legOn g n (still x m (entryAt j k .step .0)) (k + 1) (entries (drop (3 * k + 3) j)))) q
 
-  -- whatever the refusal, which is the move's to say
+  -- with the refusal that `ask` gives
   pub leg-stopped : 3 * k + 3 ≤ length j → isAllowed g m (entryAt j k) ≡ false
-      → legOn g m x k (entries (drop (3 * k) j)) ≡ goThrough k (entryMove g m (entryAt j k)) (λ next. Leg.Ended next 0)
-  unfolding goThrough
+      → legOn g m x k (entries (drop (3 * k) j)) ≡ Leg.Stopped k (refusalIn (entryAsked g m (entryAt j k)))
   leg-stopped h out =
       let f = refused-moved g m (entryAt j k) out in
-      leg-refused (f .0) (f .1) h (f .2) ∙ ap (λ (o : Move). goThrough k o (λ next. Leg.Ended next 0)) (sym (f .2))
+      leg-refused (refusalIn (entryAsked g m (entryAt j k))) (f .0) h (f .1)
 
   -- there is none
   pub leg-ended : length j ≤ 3 * k → legOn g m x k (entries (drop (3 * k) j)) ≡ Leg.Ended m x

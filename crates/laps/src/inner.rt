@@ -4,11 +4,9 @@ ghost use Prim.Native.Nat.{_%_, _<_, _≤_};
 ghost use lib.ListN.{length};
 ghost use Rattle.moves.specs.declared.Verdict.{Verdict};
 ghost use Rattle.rules.specs.Graph.{graphOf, graphVerdict};
-ghost use Rattle.rules.specs.Answers.{entryMove};
 ghost use Rattle.sets.specs.Sets.{lowest};
 ghost use Rattle.journal.specs.Journal.{entries};
-ghost use Rattle.laps.specs.declared.inner.Leg.{Leg};
-ghost use Rattle.laps.specs.Decision.{still, goThrough, judged, legOf, secondLap, firstLap, decision};
+ghost use Rattle.laps.specs.Decision.{still, judged, legOf, secondLap, firstLap, decision};
 use crate::Lapped;
 use crate::Pass;
 use journal::Ran;
@@ -16,14 +14,12 @@ use journal::inner::entry_at;
 use journal::quick::SINGLES;
 use journal::quick::allowed;
 use journal::quick::run_entries;
-use journal::quick::taken;
-use moves::Entry;
 use moves::Marking;
-use moves::Move;
 use moves::Refusal;
 use moves::Step;
 use rules::Job;
-use rules::inner::enter;
+use rules::inner::against;
+use rules::inner::taken;
 
 // Every step there could be.
 const ALL: u64 = 18446744073709551615;
@@ -60,17 +56,6 @@ fn judge(x: u64) -> Lapped
     Lapped::Starved(lowest_of(x))
 }
 
-// Where a leg stops at an entry that is not allowed. Refusals 11 to 15.
-fn stopped<'a>(g: &'a Job, m: Marking, e: Entry, index: u16) -> Leg
-    requires { ⌜ graphVerdict (graphOf (now g)) ≡ Verdict.Clear ⌝ }
-    ensures { λ r. ⌜ r ≡ goThrough index (entryMove (graphOf (now (g .entry))) m e) (λ next. Leg.Ended next 0) ⌝ }
-{
-    match enter(g, m, e) {
-        Move::Moved(next) => Leg::Ended(next, 0),
-        Move::Refused(_, r) => Leg::Stopped(index, r),
-    }
-}
-
 // The entries, on a graph and a journal that are as they should be. Refusals 11 to 15.
 fn go_through<'a>(g: &'a Job, m: Marking, j: &[u8]) -> Leg
     requires { ⌜ (graphVerdict (graphOf (now g)) ≡ Verdict.Clear) × (length (now j) % 3 ≡ 0) × (length (now j) ≤ 65535) ⌝ }
@@ -85,7 +70,7 @@ fn go_through<'a>(g: &'a Job, m: Marking, j: &[u8]) -> Leg
         let e = entry_at(j, k);
         if !allowed(&singles, g, at, e) {
             let index = k as u16;
-            return stopped(g, at, e, index);
+            return Leg::Stopped(index, against(g, at, e));
         }
         let next = taken(g, at, e);
         left = remain(left, at, e.step.0);

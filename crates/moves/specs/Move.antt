@@ -7,8 +7,10 @@ use Rattle.sets.specs.Sets.{has, single, union, meet, minus, empty, within}
 use Rattle.moves.specs.declared.inner.Row.{Row}
 use Rattle.moves.specs.declared.Marking.{Marking}
 use Rattle.moves.specs.declared.Entry.{Entry}
+use Rattle.moves.specs.declared.Refusal.{Refusal}
 use Rattle.moves.specs.declared.Refusal.the-variants.{Outside, NotHeld, NotOnStep, Excluded, Waits}
 use Rattle.moves.specs.declared.Verdict.{Verdict}
+use Rattle.moves.specs.declared.Asked.{Asked}
 use Rattle.moves.specs.declared.Move.{Move}
 use Rattle.moves.specs.First.{Line, numberOf, waitingOf}
 
@@ -70,17 +72,36 @@ rowLines w m e =
     ∷ (Waits (waitsFor (w .conditions) m), not (empty (waitsFor (w .conditions) m)))
     ∷ []
 
--- ---- the answer
+-- ---- the answers
 
 abbrev pub noMarking : Marking
 noMarking = record { done = 0; due = 0; included = 0 }
 
--- nothing against the entry: the marking after. Else the refusal, from 11 on with the marking handed in, below with zeros
-unfoldable pub moveOf : Verdict → Marking → Marking → Move
-moveOf Verdict.Clear before next = Move.Moved next
-moveOf (Verdict.Refused r) before next = Move.Refused (cond (leb 11 (numberOf r)) before noMarking) r
+-- nothing against the entry: it is allowed. Else the refusal
+unfoldable pub askedOf : Verdict → Asked
+askedOf Verdict.Clear = Asked.Allowed
+askedOf (Verdict.Refused r) = Asked.Refused r
+
+-- the marking that goes with a refusal: from 11 on the one handed in, below with zeros
+abbrev pub givenBack : Marking → Refusal → Marking
+givenBack before r = cond (leb 11 (numberOf r)) before noMarking
+
+-- taking a step: ask, and if it is allowed the marking after
+unfoldable pub moveOf : Asked → Marking → Marking → Move
+moveOf Asked.Allowed before next = Move.Moved next
+moveOf (Asked.Refused r) before next = Move.Refused (givenBack before r) r
 
 -- ---- number and values of each case
+
+-- 0 where the entry is allowed
+unfoldable pub numberOfAsked : Asked → ℕ
+numberOfAsked Asked.Allowed = 0
+numberOfAsked (Asked.Refused r) = numberOf r
+
+-- with 15 the steps that are waited for
+unfoldable pub waitingOfAsked : Asked → ℕ
+waitingOfAsked Asked.Allowed = 0
+waitingOfAsked (Asked.Refused r) = waitingOf r
 
 -- 0 where the step is taken
 unfoldable pub numberOfMove : Move → ℕ

@@ -2,13 +2,15 @@
 ghost use mathlib.Core.Path.{_≡_};
 ghost use Prim.Native.Nat.{_+_, _<_, _≤_};
 ghost use Rattle.moves.specs.First.{first};
-ghost use Rattle.moves.specs.Move.{moveOf, rowLines, after, afterOne, waitsFor, markingFits, rankOf};
+ghost use Rattle.moves.specs.Move.{askedOf, givenBack, rowLines, after, afterOne, waitsFor, markingFits, rankOf};
+use crate::Asked;
 use crate::Entry;
 use crate::Marking;
-use crate::Move;
+use crate::NONE;
 use crate::Rank;
 use crate::Refusal;
 use crate::Step;
+use crate::tell;
 
 // What an entry meets of the graph: the roles its person holds, the roles of its step, and the step's arrows.
 pub struct Row {
@@ -47,29 +49,38 @@ pub fn moved(w: Row, m: Marking, s: u8) -> Marking
     after_one(w, m, sets::single(s))
 }
 
-// An entry on its row. Refusals 12 to 15. All tests, and the set that 15 hands out, read the marking before; the one after is only
-// handed out.
-pub fn take_row(w: Row, m: Marking, e: Entry) -> Move
+// Does its row allow an entry? Refusals 12 to 15. All tests, and the set that 15 hands out, read the marking as it is handed in.
+pub fn ask_row(w: Row, m: Marking, e: Entry) -> Asked
     requires { ⌜ (e .step .0 < 64) × (e .role < 64) ⌝ }
-    ensures { λ o. ⌜ o ≡ moveOf (first (rowLines w m e)) m (after w m (e .step .0)) ⌝ }
+    ensures { λ o. ⌜ o ≡ askedOf (first (rowLines w m e)) ⌝ }
 {
     let s = e.step.0;
     let r = e.role;
-    let next = moved(w, m, s);
     if !sets::has(w.held, r) {
-        return Move::Refused(m, Refusal::NotHeld);
+        return Asked::Refused(Refusal::NotHeld);
     }
     if !sets::has(w.allows, r) {
-        return Move::Refused(m, Refusal::NotOnStep);
+        return Asked::Refused(Refusal::NotOnStep);
     }
     if !sets::has(m.included, s) {
-        return Move::Refused(m, Refusal::Excluded);
+        return Asked::Refused(Refusal::Excluded);
     }
     let open = waits(w.conditions, m);
     if open != 0 {
-        return Move::Refused(m, Refusal::Waits(open));
+        return Asked::Refused(Refusal::Waits(open));
     }
-    Move::Moved(next)
+    Asked::Allowed
+}
+
+// The marking that goes with a refusal: from 11 on the one handed in, below 11 an empty one.
+pub fn give_back(m: Marking, r: Refusal) -> Marking
+    ensures { λ b. ⌜ b ≡ givenBack m r ⌝ }
+{
+    let t = tell(r);
+    if t.number < 11 {
+        return NONE;
+    }
+    m
 }
 
 // Does the marking name only the n steps?

@@ -61,6 +61,12 @@ pub enum Verdict {
     Refused(Refusal),
 }
 
+// An entry that is asked for: it is allowed, or refused.
+pub enum Asked {
+    Allowed,
+    Refused(Refusal),
+}
+
 // A step taken, with the marking after; or refused, with the marking handed in (below 11: an empty one). The marking stands first in
 // both, so that it lies in one place whatever the answer is.
 pub enum Move {

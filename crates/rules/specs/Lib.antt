@@ -3,6 +3,7 @@ pub mod Answers
 pub mod Laws
 pub mod Block
 pub mod Sound
+pub mod Asking
 pub mod Entries
 pub mod Signs
 pub mod Paper

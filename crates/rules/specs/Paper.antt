@@ -12,13 +12,16 @@ use Rattle.rules.specs.Graph.{Graph, graphLines, graphVerdict, condition
 use Rattle.moves.specs.declared.Marking.{Marking}
 use Rattle.moves.specs.declared.Entry.{Entry}
 use Rattle.moves.specs.declared.Verdict.{Verdict}
+use Rattle.moves.specs.declared.Asked.{Asked}
 use Rattle.moves.specs.declared.Move.{Move}
 use Rattle.moves.specs.First.{first, numberOfVerdict, numberOf}
-use Rattle.rules.specs.Answers.{theMove, moveLines, entryLines, markingLines, entryKnown, rowOf, numberOfEnding, endingOf, theEnding}
-use Rattle.moves.specs.Move.{moveOf, rowLines, after, waitsFor, isFinished, markingFits, numberOfMove}
-use Rattle.moves.specs.Given.{ascends, holds, first-lowest, clear-head, clear-tail, clear-front, first-clear}
+use Rattle.rules.specs.Answers.{theAsked, theMove, moveLines, entryLines, markingLines, entryKnown, rowOf, afterEntry}
+use Rattle.rules.specs.Answers.{numberOfEnding, endingOf, theEnding}
+use Rattle.moves.specs.Move.{askedOf, moveOf, rowLines, after, waitsFor, isFinished, markingFits, numberOfMove}
+use Rattle.moves.specs.Given.{ascends, holds, first-lowest, clear-head, clear-tail, clear-front, clear-back, first-clear}
 use Rattle.rules.specs.Signs.{_∩_, _∖_, _∪_, _∈_, Ex, Re, In}
-use Rattle.rules.specs.Entries.{moved-clear, moved-after}
+use Rattle.rules.specs.Asking.{allowed-of, asked-taken, asked-number, asked-lines}
+use Rattle.rules.specs.Entries.{moved-after}
 
 -- ---- Definition 3: the relations
 
@@ -104,43 +107,46 @@ pub record Ready (g : Graph) (m : Marking) (e : Entry) : Type 0 where
   pub marking : markingFits (g .steps) m ≡ true
   pub names : entryKnown g e ≡ true
 
--- Definition 4 (i) to (vi) with Definition 5, from left to right: a step taken was allowed, and leads to the marking after
-pub taken-allowed : (g : Graph) (m x : Marking) (e : Entry) → theMove g m e ≡ Move.Moved x
-    → Ready g m e × Allowed g m e × (x ≡ after (rowOf g (e .person) (e .step .0)) m (e .step .0))
-taken-allowed g m x e q =
-    let c : first (moveLines g m e) ≡ Verdict.Clear = moved-clear g m x e q in
-    let graph : graphVerdict g ≡ Verdict.Clear = clear-front (graphLines g) (markingLines g m ++ entryLines g m e) c in
+-- Definitions 4 (iii), (iv) and 5, from left to right: what `ask` allows is allowed
+pub asked-allowed : (g : Graph) (m : Marking) (e : Entry) → theAsked g m e ≡ Asked.Allowed → Ready g m e × Allowed g m e
+unfolding theAsked
+asked-allowed g m e q =
+    let c : first (moveLines g m e) ≡ Verdict.Clear = allowed-of (first (moveLines g m e)) q in
     let rest : first (markingLines g m ++ entryLines g m e) ≡ Verdict.Clear =
-    sym (first-clear (graphLines g) (markingLines g m ++ entryLines g m e) graph) ∙ c in
+    clear-back (graphLines g) (markingLines g m ++ entryLines g m e) c in
     let entry : first (entryLines g m e) ≡ Verdict.Clear = clear-tail _ _ rest in (
       record {
-        graph = graph;
+        graph = clear-front (graphLines g) (markingLines g m ++ entryLines g m e) c;
         marking = not-false (markingFits (g .steps) m) (clear-head _ _ rest);
         names = not-false (entryKnown g e) (clear-head _ _ entry);
       },
       lines-allowed g m e (clear-tail _ _ entry),
-      sym (moved-after g m x e q),
     )
+
+-- and from right to left
+pub allowed-asked : (g : Graph) (m : Marking) (e : Entry) → Ready g m e → Allowed g m e → theAsked g m e ≡ Asked.Allowed
+unfolding theAsked askedOf first
+allowed-asked g m e r w =
+    let rest : first (markingLines g m ++ entryLines g m e) ≡ Verdict.Clear = simp (r .marking, r .names, allowed-lines g m e w) in
+    ap askedOf (first-clear (graphLines g) (markingLines g m ++ entryLines g m e) (r .graph) ∙ rest)
+
+-- Definition 4 (i) to (vi) with Definition 5, from left to right: a step taken was allowed, and leads to the marking after
+pub taken-allowed : (g : Graph) (m x : Marking) (e : Entry) → theMove g m e ≡ Move.Moved x
+    → Ready g m e × Allowed g m e × (x ≡ after (rowOf g (e .person) (e .step .0)) m (e .step .0))
+taken-allowed g m x e q =
+    let both = asked-allowed g m e (asked-taken g m e .1 (x, q)) in
+    (both .0, both .1, sym (moved-after g m x e q))
 
 -- and from right to left: what is allowed is taken
 pub allowed-taken : (g : Graph) (m : Marking) (e : Entry) → Ready g m e → Allowed g m e
     → theMove g m e ≡ Move.Moved (after (rowOf g (e .person) (e .step .0)) m (e .step .0))
-unfolding theMove moveOf first
-allowed-taken g m e r w =
-    let rest : first (markingLines g m ++ entryLines g m e) ≡ Verdict.Clear = simp (r .marking, r .names, allowed-lines g m e w) in
-    ap (λ (v : Verdict). moveOf v m (after (rowOf g (e .person) (e .step .0)) m (e .step .0)))
-    (first-clear (graphLines g) (markingLines g m ++ entryLines g m e) (r .graph) ∙ rest)
+unfolding theMove moveOf
+allowed-taken g m e r w = ap (λ (o : Asked). moveOf o m (afterEntry g m e)) (allowed-asked g m e r w)
 
 -- ---- the number is exactly the first of the table that holds
 
-of-number : (v : Verdict) (m next : Marking) → numberOfMove (moveOf v m next) ≡ numberOfVerdict v
-unfolding numberOfMove moveOf numberOfVerdict
-of-number Verdict.Clear m next = refl
-of-number (Verdict.Refused r) m next = refl
-
 pub move-number : (g : Graph) (m : Marking) (e : Entry) → numberOfMove (theMove g m e) ≡ numberOfVerdict (first (moveLines g m e))
-unfolding theMove
-move-number g m e = of-number (first (moveLines g m e)) m (after (rowOf g (e .person) (e .step .0)) m (e .step .0))
+move-number g m e = sym (asked-number g m e) ∙ asked-lines g m e
 
 ending-of : (v : Verdict) (done : Bool) → numberOfEnding (endingOf v done) ≡ numberOfVerdict v
 unfolding numberOfEnding endingOf numberOfVerdict

@@ -1,13 +1,14 @@
-// The paper's Definitions 3 to 5: graphs, and taking a step on one.
+// The paper's Definitions 3 to 5: graphs, and asking for a step and taking it on one.
 ghost use mathlib.Core.Path.{_≡_};
 ghost use Rattle.rules.specs.Graph.{graphOf, graphVerdict};
-ghost use Rattle.rules.specs.Answers.{theMove, theEnding};
+ghost use Rattle.rules.specs.Answers.{theAsked, theMove, theEnding};
+use crate::inner::ask_on;
 use crate::inner::finished_on;
-use crate::inner::take_on;
+use crate::inner::take_asked;
+use moves::Asked;
 use moves::Entry;
 use moves::Marking;
 use moves::Move;
-use moves::NONE;
 use moves::Refusal;
 use moves::Verdict;
 use tables::arrows_checked;
@@ -66,15 +67,24 @@ pub fn check(g: &Job) -> Verdict
     Verdict::Clear
 }
 
-// Take one step. Refusals 2, 4, 6, 8, 11 to 15.
-pub fn take(g: &Job, m: Marking, e: Entry) -> Move
-    ensures { λ r. ⌜ r ≡ theMove (graphOf (now (g .entry))) m e ⌝ }
+// May the step be taken? Nothing is changed by asking. Refusals 2, 4, 6, 8, 11 to 15.
+pub fn ask(g: &Job, m: Marking, e: Entry) -> Asked
+    ensures { λ r. ⌜ r ≡ theAsked (graphOf (now (g .entry))) m e ⌝ }
+    ensures { λ r. ⌜ now (g .exit) ≡ now (g .entry) ⌝ }
 {
     let v = check(g);
     if let Verdict::Refused(r) = v {
-        return Move::Refused(NONE, r);
+        return Asked::Refused(r);
     }
-    take_on(g, m, e)
+    ask_on(g, m, e)
+}
+
+// Take one step: ask, and if it is allowed the marking after. Refusals 2, 4, 6, 8, 11 to 15, as `ask`.
+pub fn take(g: &Job, m: Marking, e: Entry) -> Move
+    ensures { λ r. ⌜ r ≡ theMove (graphOf (now (g .entry))) m e ⌝ }
+{
+    let o = ask(g, m, e);
+    take_asked(g, m, e, o)
 }
 
 // Is the job finished: is no step both due and included? Refusals 2, 4, 6, 8.

@@ -6,8 +6,9 @@ use lib.Dec.{eqb}
 use Rattle.sets.specs.Sets.{single, union}
 use Rattle.moves.specs.declared.Marking.{Marking}
 use Rattle.moves.specs.declared.Entry.{Entry}
+use Rattle.moves.specs.declared.Asked.{Asked}
 use Rattle.moves.specs.declared.Move.{Move}
-use Rattle.moves.specs.Move.{numberOfMove, waitingOfMove, markingOfMove}
+use Rattle.moves.specs.Move.{numberOfAsked, waitingOfAsked, numberOfMove, waitingOfMove, markingOfMove}
 use Rattle.rules.specs.Graph.{Graph}
 use Rattle.records.specs.declared.Recorded.{Recorded}
 use Rattle.tracker.specs.declared.Tracked.{Tracked}
@@ -67,6 +68,10 @@ graph steps people roles stepRoles held arrows =
       allows = rows 64 stepRoles;
       holds = rows 16 held;
     }
+
+-- an answer to who asks: the number, and the set that goes with it
+abbrev pub answered : Asked → ℕ × ℕ
+answered o = (numberOfAsked o, waitingOfAsked o)
 
 -- an answer to a step: the number, the set that goes with it, the marking
 abbrev pub given : Move → ℕ × ℕ × Marking

@@ -5,10 +5,10 @@ use mathlib.Core.List.{List, [], _∷_}
 use mathlib.Core.Bool.{true, false}
 use Rattle.sets.specs.Sets.{has, full, scan, lowest, every}
 use Rattle.moves.specs.First.{first, numberOf, waitingOf}
-use Rattle.moves.specs.Move.{moveOf, isFinished, numberOfMove, waitingOfMove, markingOfMove}
+use Rattle.moves.specs.Move.{askedOf, moveOf, isFinished, numberOfAsked, waitingOfAsked, numberOfMove, waitingOfMove, markingOfMove}
 use Rattle.tables.specs.Tables.{keeps}
 use Rattle.rules.specs.Graph.{setsFit}
-use Rattle.rules.specs.Answers.{theMove, entryMove}
+use Rattle.rules.specs.Answers.{theAsked, theMove, entryAsked, entryMove}
 use Rattle.journal.specs.Journal.{entries}
 use Rattle.records.specs.declared.Recorded.{Recorded}
 use Rattle.records.specs.Records.{impossible, tidy, join}
@@ -20,8 +20,8 @@ use Rattle.laps.specs.Laps.{LapAnswer}
 use Rattle.laps.specs.Decision.{goThrough, legOn, upon, secondLap, firstLap, decision, lapOf, theLap}
 use Rattle.laps.specs.Laws.{the-lap-right}
 use Rattle.tracker.specs.Tracker.{theStart, theStep, trackAfter, trackedOf}
-use Rattle.samples.specs.Job.{set, rows, targets, sources, table, given, job, firstMarking, entry, reboot, check, publish, rebooted}
-use Rattle.samples.specs.Job.{checked, at, tracking, journal, folded}
+use Rattle.samples.specs.Job.{set, rows, targets, sources, table, given, answered, job, firstMarking, entry}
+use Rattle.samples.specs.Job.{reboot, check, publish, rebooted, checked, at, tracking, journal, folded}
 
 -- a sample: its number, and what it says
 abbrev pub Sample : Type 1
@@ -38,10 +38,18 @@ a also b = (a, b)
 
 unfoldable pub samples : List Sample
 samples =
-    -- S1: (1,2,1) at start: 15, waits for {1}
-    (1, given (theMove job firstMarking publish) ≡ (15, set (1 ∷ []), firstMarking))
-    -- S2: (0,0,0): Ex {0}, Re {1}, In {0,1}; not finished
-    ∷ (2, (given (theMove job firstMarking reboot) ≡ (0, 0, rebooted)) × (isFinished rebooted ≡ false))
+    -- S1: (1,2,1) at start: 15, waits for {1}; asked, the same
+    (
+      1,
+      (given (theMove job firstMarking publish) ≡ (15, set (1 ∷ []), firstMarking))
+          × (answered (theAsked job firstMarking publish) ≡ (15, set (1 ∷ []))),
+    )
+    -- S2: (0,0,0): Ex {0}, Re {1}, In {0,1}; not finished; asked, it is allowed
+    ∷ (
+      2,
+      (given (theMove job firstMarking reboot) ≡ (0, 0, rebooted)) × (isFinished rebooted ≡ false)
+          × (answered (theAsked job firstMarking reboot) ≡ (0, 0)),
+    )
     -- S3: (1,2,1) after S2: 14
     ∷ (3, given (theMove job rebooted publish) ≡ (14, 0, rebooted))
     -- S4: (0,1,0) after S2: Ex {0,1}, Re empty, In {0,1,2}; finished
@@ -77,12 +85,12 @@ samples =
 -- the laps of S12 are decided by computing, and the decision is right for the run without end
 starved : theLap job firstMarking [] (journal (reboot ∷ [])) ≡ Lapped.Starved (record { 0 = 1 })
 unfolding journal set rows targets sources table job first numberOf keeps setsFit has full scan lowest every goThrough legOn upon secondLap
-    firstLap decision lapOf theLap entryMove moveOf entries
+    firstLap decision lapOf theLap entryMove entryAsked askedOf moveOf entries
 starved = refl
 
 accepted : theLap job firstMarking [] (journal (reboot ∷ check ∷ [])) ≡ Lapped.Accepted
 unfolding journal set rows targets sources table job first numberOf keeps setsFit has full scan lowest every goThrough legOn upon secondLap
-    firstLap decision lapOf theLap entryMove moveOf entries
+    firstLap decision lapOf theLap entryMove entryAsked askedOf moveOf entries
 accepted = refl
 
 twelve : LapAnswer job firstMarking [] (journal (reboot ∷ [])) (Lapped.Starved (record { 0 = 1 }))
@@ -94,8 +102,8 @@ twelve = (
 )
 
 pub samples-hold : Hold samples
-unfolding samples set rows targets sources table job tracking first numberOf waitingOf keeps setsFit theMove moveOf numberOfMove waitingOfMove
-    markingOfMove theStart theStep trackAfter trackedOf has full scan lowest every journal theFold recordedOf foldOf entryRecord tidy join
-    entries
-samples-hold = refl also (refl, refl) also refl also
+unfolding samples set rows targets sources table job tracking first numberOf waitingOf keeps setsFit theMove theAsked askedOf moveOf
+    numberOfAsked waitingOfAsked numberOfMove waitingOfMove markingOfMove theStart theStep trackAfter trackedOf has full scan lowest every
+    journal theFold recordedOf foldOf entryRecord tidy join entries
+samples-hold = (refl, refl) also (refl, refl, refl) also refl also
     (refl, refl) also refl also refl also refl also refl also refl also refl also refl also twelve also (refl, refl) also tt

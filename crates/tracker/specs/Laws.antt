@@ -18,10 +18,11 @@ use Rattle.moves.specs.declared.Entry.{Entry}
 use Rattle.moves.specs.declared.Refusal.{Refusal}
 use Rattle.moves.specs.declared.Refusal.the-variants.{Outside, NoRank}
 use Rattle.moves.specs.declared.Verdict.{Verdict}
+use Rattle.moves.specs.declared.Asked.{Asked}
 use Rattle.moves.specs.declared.Move.{Move}
 use Rattle.moves.specs.First.{Line, first, numberOf}
-use Rattle.moves.specs.Move.{rankOf, markingFits, moveOf, after}
-use Rattle.rules.specs.Answers.{markingLines, entryLines, moveLines, theMove, entryMove, rowOf}
+use Rattle.moves.specs.Move.{rankOf, markingFits, askedOf}
+use Rattle.rules.specs.Answers.{markingLines, entryLines, moveLines, theMove, entryAsked, afterEntry}
 use Rattle.moves.specs.Given.{first-clear, first-refused, first-below, numbersBelow, ascends, clear-head, clear-tail, first-above}
 use Rattle.moves.specs.Given.{clear-front, clear-back}
 use Rattle.rules.specs.Entries.{clear-moved, moved-clear, moved-after}
@@ -122,15 +123,15 @@ pub step-unranked : (g : Graph) (t : Track) (e : Entry) → first (startLines g 
 unfolding theStep
 step-unranked g t e q f = unranked-by g t (entryLines g (t .marking) e) t _ q f
 
--- what becomes of the tracker's state where the entry is let in or not
-unfoldable pub entered : Move → Track → ℕ → Tracked
-entered (Move.Moved next) t s = Tracked.At (trackAfter t next s)
-entered (Move.Refused m r) t s = Tracked.Stays t r
+-- what becomes of the tracker's state, by what is asked of the entry, which leads to `next`
+unfoldable pub entered : Asked → Track → Marking → ℕ → Tracked
+entered Asked.Allowed t next s = Tracked.At (trackAfter t next s)
+entered (Asked.Refused r) t next s = Tracked.Stays t r
 
 pub step-entered : (g : Graph) (t : Track) (e : Entry) → first (startLines g (t .marking)) ≡ Verdict.Clear
     → isRank (g .steps) (t .rank .0) ≡ true
-    → theStep g t e ≡ entered (entryMove g (t .marking) e) t (e .step .0)
-unfolding theStep trackedOf first entryMove moveOf entered ascends numberOf
+    → theStep g t e ≡ entered (entryAsked g (t .marking) e) t (afterEntry g (t .marking) e) (e .step .0)
+unfolding theStep trackedOf first entryAsked askedOf entered ascends numberOf
 step-entered g t e q f =
     ap (λ (v : Verdict). trackedOf v t (trackAfter t next (e .step .0)))
     (rank-first g t (entryLines g (t .marking) e) q
@@ -138,10 +139,10 @@ step-entered g t e q f =
     ∙ go (first (entryLines g (t .marking) e)) refl
   where
     next : Marking
-    next = after (rowOf g (e .person) (e .step .0)) (t .marking) (e .step .0)
+    next = afterEntry g (t .marking) e
 
     go : (v : Verdict) → first (entryLines g (t .marking) e) ≡ v
-        → trackedOf v t (trackAfter t next (e .step .0)) ≡ entered (moveOf v (t .marking) next) t (e .step .0)
+        → trackedOf v t (trackAfter t next (e .step .0)) ≡ entered (askedOf v) t next (e .step .0)
     go Verdict.Clear p = refl
     go (Verdict.Refused r) p =
         ap (λ (b : Bool). cond b (Tracked.Stays t r) (Tracked.Refused r))
@@ -257,7 +258,7 @@ pub step-at : (g : Graph) (t : Track) (e : Entry) (u : Track) → theStep g t e 
 unfolding theStep trackAfter
 step-at g t e u q =
     let m = t .marking in
-    let next : Marking = after (rowOf g (e .person) (e .step .0)) m (e .step .0) in
+    let next : Marking = afterEntry g m e in
     let at = tracked-at (first (stepLines g t e)) t (trackAfter t next (e .step .0)) u q in
     let sound : first (startLines g m) ≡ Verdict.Clear = clear-front (startLines g m) (rankLines g (t .rank) ++ entryLines g m e) (at .0) in
     let back : first (rankLines g (t .rank) ++ entryLines g m e) ≡ Verdict.Clear =
@@ -274,7 +275,7 @@ pub at-step : (g : Graph) (t : Track) (e : Entry) (u : Track) → Stepped g t e 
 unfolding theStep trackedOf first
 at-step g t e u s =
     let m = t .marking in
-    let next : Marking = after (rowOf g (e .person) (e .step .0)) m (e .step .0) in
+    let next : Marking = afterEntry g m e in
     let all : first (startLines g m ++ entryLines g m e) ≡ Verdict.Clear = moved-clear g m (u .marking) e (s .moved) in
     let clear : first (stepLines g t e) ≡ Verdict.Clear =
     rank-first g t (entryLines g m e) (clear-front (startLines g m) (entryLines g m e) all)

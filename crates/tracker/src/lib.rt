@@ -7,13 +7,15 @@ use crate::inner::follow;
 use crate::inner::ranked;
 use crate::inner::rest;
 use crate::inner::sound;
+use moves::Asked;
 use moves::Entry;
 use moves::Marking;
-use moves::Move;
 use moves::Rank;
 use moves::Refusal;
 use moves::Verdict;
 use rules::Job;
+use rules::inner::ask_entry;
+use rules::inner::taken;
 
 pub mod inner;
 
@@ -67,9 +69,8 @@ pub fn advance(g: &Job, t: Track, e: Entry) -> Tracked
     if !ranked(g[0], t.rank) {
         return Tracked::Refused(Refusal::NoRank);
     }
-    let o = rules::inner::enter(g, t.marking, e);
-    match o {
-        Move::Refused(_, r) => Tracked::Stays(t, r),
-        Move::Moved(next) => Tracked::At(follow(t, next, e.step)),
+    match ask_entry(g, t.marking, e) {
+        Asked::Refused(r) => Tracked::Stays(t, r),
+        Asked::Allowed => Tracked::At(follow(t, taken(g, t.marking, e), e.step)),
     }
 }

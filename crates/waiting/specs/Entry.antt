@@ -1,6 +1,6 @@
 -- Number 15 (Definition 4 (iv)): which entries get it, and the set that goes with it. Assumes nothing.
 use Prim.Native.Nat.{ℕ, _^_, _<_, _≤_}
-use mathlib.Core.Path.{_≡_, refl, sym, ap, _∙_}
+use mathlib.Core.Path.{_≡_, refl, sym, ap, _∙_, subst}
 use mathlib.Core.Logic.{_↔_}
 use mathlib.Core.List.{List, _++_}
 use mathlib.Core.Bool.{Bool, true, false, not, _&&_, cond, true≢false}
@@ -18,12 +18,13 @@ use Rattle.moves.specs.declared.Refusal.the-variants.{IllFormed, Unknown, NotHe
 use Rattle.moves.specs.declared.Refusal.the-variants.{Room}
 use Rattle.moves.specs.declared.Verdict.{Verdict}
 use Rattle.moves.specs.First.{Line, first, numberOf, waitingOf, numberOfVerdict}
-use Rattle.moves.specs.Move.{waitsFor, markingFits, numberOfMove, waitingOfMove}
+use Rattle.moves.specs.Move.{waitsFor, markingFits, numberOfAsked, waitingOfAsked, numberOfMove, waitingOfMove}
 use Rattle.moves.specs.Given.{numbersBelow, first-clear, first-late, clear-head, clear-front, clear-back}
 use Rattle.rules.specs.Graph.{Graph, graphLines, graphVerdict, conditionsOf, rolesOf, rolesHeld}
-use Rattle.rules.specs.Answers.{entryKnown, entryLines, markingLines, moveLines, theMove}
+use Rattle.rules.specs.Answers.{entryKnown, entryLines, markingLines, moveLines, theAsked, theMove}
 use Rattle.rules.specs.Signs.{_∈_, Ex, In}
 use Rattle.rules.specs.Paper.{condition, Allowed, Ready, has-waits, lines-allowed, move-number}
+use Rattle.rules.specs.Asking.{asked-number, asked-waiting}
 use Rattle.rules.specs.Entries.{refused-first}
 use Rattle.rules.specs.Sound.{clear-sound}
 
@@ -169,6 +170,13 @@ move-tells g m e = go (theMove g m e) refl
     go : (o : Move) → theMove g m e ≡ o → Tells g m (e .step .0) (numberOfMove o) (waitingOfMove o)
     go (Move.Moved next) p = nothing-told g m (e .step .0)
     go (Move.Refused back r) p = refusal-tells g m e r (λ is. entry-refused g m e r (refused-first g m back e r p) is .1)
+
+-- and asking tells the same
+pub ask-tells : (g : Graph) (m : Marking) (e : Entry)
+    → Tells g m (e .step .0) (numberOfAsked (theAsked g m e)) (waitingOfAsked (theAsked g m e))
+ask-tells g m e =
+    subst (λ (n : ℕ). Tells g m (e .step .0) n (waitingOfAsked (theAsked g m e))) (sym (asked-number g m e))
+    (subst (Tells g m (e .step .0) (numberOfMove (theMove g m e))) (sym (asked-waiting g m e)) (move-tells g m e))
 
 ready : (g : Graph) (m : Marking) (e : Entry) → first (before-entry g m) ≡ Verdict.Clear → entryKnown g e ≡ true → Ready g m e
 ready g m e clear known =

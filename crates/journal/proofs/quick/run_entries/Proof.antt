@@ -12,14 +12,14 @@ use Rattle.moves.specs.declared.Marking.{Marking}
 use Rattle.moves.specs.declared.Entry.{Entry}
 use Rattle.moves.specs.declared.Move.{Move}
 use Rattle.rules.specs.Graph.{Graph, graphOf}
-use Rattle.rules.specs.Answers.{entryMove}
+use Rattle.rules.specs.Answers.{entryAsked, refusalIn, entryMove}
 use Rattle.tables.specs.Laws.{Counted}
 use Rattle.rules.specs.Laws.{clear-counts}
+use Rattle.rules.specs.Entries.{Named}
 use Rattle.journal.specs.declared.Ran.{Ran}
 use Rattle.journal.specs.Journal.{entries, entryAt}
-use Rattle.journal.specs.Run.{goOn}
 use Rattle.journal.specs.Inner.{runOn}
-use Rattle.journal.specs.Allowed.{Named, isAllowed, allowed-named, allowed-moved}
+use Rattle.journal.specs.Allowed.{isAllowed, allowed-named, allowed-moved}
 use Rattle.journal.specs.Singles.{singles-all}
 use Rattle.journal.specs.Laws.{run-moved, run-stopped, run-ended}
 use Rattle.journal.proofs.quick.run_entries.Statement.{statement}
@@ -71,8 +71,8 @@ allowed-requires c κs = (start (c .before .before .before) .pre .0, singles-all
 cast-index : tie.Need-cast-index Inv-loop μ-loop
 cast-index c = search needs
 
-refused-requires : tie.Need-refused-requires Inv-loop μ-loop
-refused-requires c κs = start (turn (c .before)) .pre .0
+against-requires : tie.Need-against-requires Inv-loop μ-loop
+against-requires c κs = start (turn (c .before)) .pre .0
 
 returns : tie.Need-returns Inv-loop μ-loop
 returns c =
@@ -83,8 +83,7 @@ returns c =
     let e = entered p .entry-at .ensures in
     let out : isAllowed g (l .at) (entryAt j (l .k)) ≡ false =
     ap (isAllowed g (l .at)) (sym e) ∙ sym (p .allowed .ensures) ∙ not-true _ (c .before .if1 .taken) in
-    c .refused .ensures
-    ∙ ap (λ (x : Entry). goOn (l .k) (l .at) (entryMove g (l .at) x) (λ next. Ran.Ended next (l .k))) e
+    ap (Ran.Stopped (l .k) (l .at)) (c .against .ensures ∙ ap (λ (x : Entry). refusalIn (entryAsked g (l .at) x)) e)
     ∙ sym (l .inv .3 ∙ run-stopped g (l .at) j (l .k) (room p) out)
 
 taken-requires : tie.Need-taken-requires Inv-loop μ-loop
@@ -139,7 +138,7 @@ run-entries-spec =
     entry-at-requires
     allowed-requires
     cast-index
-    refused-requires
+    against-requires
     returns
     taken-requires
     add-k

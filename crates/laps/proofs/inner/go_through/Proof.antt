@@ -11,14 +11,15 @@ use Rattle.sets.specs.Sets.{full}
 use Rattle.moves.specs.declared.Entry.{Entry}
 use Rattle.moves.specs.declared.Move.{Move}
 use Rattle.rules.specs.Graph.{Graph, graphOf}
-use Rattle.rules.specs.Answers.{entryMove}
+use Rattle.rules.specs.Answers.{entryAsked, refusalIn, entryMove}
 use Rattle.tables.specs.Laws.{Counted}
 use Rattle.rules.specs.Laws.{clear-counts}
+use Rattle.rules.specs.Entries.{Named}
 use Rattle.journal.specs.Journal.{entries, entryAt}
-use Rattle.journal.specs.Allowed.{Named, isAllowed, allowed-named, allowed-moved}
+use Rattle.journal.specs.Allowed.{isAllowed, allowed-named, allowed-moved}
 use Rattle.journal.specs.Singles.{singles-all}
 use Rattle.laps.specs.declared.inner.Leg.{Leg}
-use Rattle.laps.specs.Decision.{still, goThrough, legOn}
+use Rattle.laps.specs.Decision.{still, legOn}
 use Rattle.laps.specs.Ways.{leg-moved, leg-stopped, leg-ended}
 use Rattle.laps.proofs.inner.go_through.Statement.{statement}
 use Rattle.laps.proofs.inner.go_through.Tie as tie
@@ -45,8 +46,8 @@ allowed-requires c κs = (c .before .before .before .before .before .pre .0, sin
 cast-index : tie.Need-cast-index Inv-loop μ-loop
 cast-index c = search needs
 
-stopped-requires : tie.Need-stopped-requires Inv-loop μ-loop
-stopped-requires c κs = c .before .before .before .before .before .before .before .pre .0
+against-requires : tie.Need-against-requires Inv-loop μ-loop
+against-requires c κs = c .before .before .before .before .before .before .before .pre .0
 
 returns : tie.Need-returns Inv-loop μ-loop
 unfolding full
@@ -59,9 +60,8 @@ returns c =
     let out : isAllowed g (l .at) (entryAt j (l .k)) ≡ false =
     ap (isAllowed g (l .at)) (sym (c .before .before .before .before .entry-at .ensures)) ∙ sym (c .before .before .allowed .ensures)
     ∙ not-true _ (c .before .if1 .taken) in
-    c .stopped .ensures
-    ∙ ap (λ (e : Entry). goThrough (l .k) (entryMove g (l .at) e) (λ next. Leg.Ended next 0))
-    (c .before .before .before .before .entry-at .ensures)
+    ap (Leg.Stopped (l .k)) (c .against .ensures
+    ∙ ap (λ (e : Entry). refusalIn (entryAsked g (l .at) e)) (c .before .before .before .before .entry-at .ensures))
     ∙ sym (l .inv .3 ∙ leg-stopped g (l .at) (l .left) j (l .k) room out)
 
 taken-requires : tie.Need-taken-requires Inv-loop μ-loop
@@ -128,7 +128,7 @@ go-through-spec =
     entry-at-requires
     allowed-requires
     cast-index
-    stopped-requires
+    against-requires
     returns
     taken-requires
     remain-requires

@@ -1,4 +1,4 @@
--- `inner::enter`: an entry whose numbers are known goes by its row. Assumes nothing.
+-- `inner::ask_entry`: an entry whose numbers are known goes by its row. Assumes nothing.
 use mathlib.Core.Path.{_≡_, sym, _∙_, ap}
 use mathlib.Core.Bool.{true, false}
 use borrow.Author.Tests.{lt-ltb, le-ltb}
@@ -6,12 +6,12 @@ use Rattle.moves.specs.declared.inner.Row.{Row}
 use Rattle.moves.specs.First.{first}
 use Rattle.rules.specs.Graph.{Graph, graphOf}
 use Rattle.rules.specs.Answers.{entryKnown}
-use Rattle.moves.specs.Move.{moveOf, rowLines, after}
+use Rattle.moves.specs.Move.{askedOf, rowLines}
 use Rattle.rules.specs.Laws.{clear-counts, entry-unknown, entry-known}
 use native.Mathlib.Omega.{arith}
 use borrow.Author.Needs.{needs}
-use Rattle.rules.proofs.inner.enter.Statement.{statement}
-use Rattle.rules.proofs.inner.enter.Tie as tie
+use Rattle.rules.proofs.inner.ask_entry.Statement.{statement}
+use Rattle.rules.proofs.inner.ask_entry.Tie as tie
 
 element-copy-out-if1 : tie.Need-element-copy-out-if1
 element-copy-out-if1 c = search needs
@@ -63,8 +63,8 @@ row-at-requires c κs =
     let k = clear-counts (graphOf (known .args .g .now)) (known .pre) in
     (omega (arith, k .people-most), omega (arith, k .steps-most))
 
-take-row-requires : tie.Need-take-row-requires
-take-row-requires c κs =
+ask-row-requires : tie.Need-ask-row-requires
+ask-row-requires c κs =
     let known = c .before .before .before .before .before .before .before in
     let k = clear-counts (graphOf (known .args .g .now)) (known .pre) in
     (omega (arith, k .steps-most), omega (arith, k .roles-most))
@@ -79,11 +79,11 @@ returns-4 c =
       lt-ltb _ _ (c .before .before .before .before .if2 .left),
       lt-ltb _ _ (c .before .before .if3 .left),
     ) in
-    c .take-row .ensures ∙ ap (λ (w : Row). moveOf (first (rowLines w (a .m) (a .e))) (a .m) (after w (a .m) (a .e .step .0)))
-    (c .before .row-at .ensures) ∙ sym (entry-known g (a .m) (a .e) is)
+    c .ask-row .ensures ∙ ap (λ (w : Row). askedOf (first (rowLines w (a .m) (a .e)))) (c .before .row-at .ensures)
+    ∙ sym (entry-known g (a .m) (a .e) is)
 
-pub enter-spec : {M : Type 1} → statement M
-enter-spec =
+pub ask-entry-spec : {M : Type 1} → statement M
+ask-entry-spec =
     tie.close
     (tie.spec
     element-copy-out-if1
@@ -96,5 +96,5 @@ enter-spec =
     cast-if3
     returns-3
     row-at-requires
-    take-row-requires
+    ask-row-requires
     returns-4)

@@ -1,10 +1,10 @@
--- `quick::taken`: the row of the entry, and the marking after it. Assumes nothing.
+-- `inner::taken`: the row of the entry, and the marking after it. Assumes nothing.
 use mathlib.Core.Path.{ap, _∙_}
 use borrow.Author.Needs.{needs}
 use Rattle.moves.specs.declared.inner.Row.{Row}
 use Rattle.moves.specs.Move.{after}
-use Rattle.journal.proofs.quick.taken.Statement.{statement}
-use Rattle.journal.proofs.quick.taken.Tie as tie
+use Rattle.rules.proofs.inner.taken.Statement.{statement}
+use Rattle.rules.proofs.inner.taken.Tie as tie
 
 row-at-requires : tie.Need-row-at-requires
 row-at-requires c κs = search needs

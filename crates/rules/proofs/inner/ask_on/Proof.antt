@@ -1,11 +1,11 @@
--- `inner::take_on`: the marking's refusal, then the entry's. Assumes nothing.
+-- `inner::ask_on`: the marking's refusal, then the entry's. Assumes nothing.
 use mathlib.Core.Path.{sym, _∙_}
 use borrow.Author.Tests.{not-true, not-false}
 use Rattle.rules.specs.Graph.{graphOf}
 use Rattle.rules.specs.Laws.{clear-counts, on-outside, on-inside}
 use borrow.Author.Needs.{needs}
-use Rattle.rules.proofs.inner.take_on.Statement.{statement}
-use Rattle.rules.proofs.inner.take_on.Tie as tie
+use Rattle.rules.proofs.inner.ask_on.Statement.{statement}
+use Rattle.rules.proofs.inner.ask_on.Tie as tie
 
 element-copy-out-fits : tie.Need-element-copy-out-fits
 element-copy-out-fits c = search needs
@@ -20,15 +20,15 @@ returns c =
     let a = c .before .before .before .args in
     sym (on-outside (graphOf (a .g .now)) (a .m) (a .e) (sym (c .before .fits2 .ensures) ∙ not-true _ (c .if1 .taken)))
 
-enter-requires : tie.Need-enter-requires
-enter-requires c κs = search needs
+ask-entry-requires : tie.Need-ask-entry-requires
+ask-entry-requires c κs = search needs
 
 returns-2 : tie.Need-returns-2
 returns-2 c =
     let a = c .before .before .before .before .args in
-    c .enter .ensures ∙ sym
+    c .ask-entry .ensures ∙ sym
     (on-inside (graphOf (a .g .now)) (a .m) (a .e) (sym (c .before .before .fits2 .ensures) ∙ not-false _ (c .before .if1 .left)))
 
-pub take-on-spec : {M : Type 1} → statement M
-take-on-spec =
-    tie.close (tie.spec element-copy-out-fits fits-requires returns enter-requires returns-2)
+pub ask-on-spec : {M : Type 1} → statement M
+ask-on-spec =
+    tie.close (tie.spec element-copy-out-fits fits-requires returns ask-entry-requires returns-2)
