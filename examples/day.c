@@ -57,10 +57,10 @@ int main(void) {
     const ulz_marking start = {0, 0, 7};
     expect(ULZ_ANSWERED, ulz_check(&g));
 
-    ulz_moved moved = ulz_take(&g, start, publish);
-    expect(ULZ_WAITS, moved.number);
-    printf("publish: refused with %d, %s", (int)moved.number, ulz_text(moved.number));
-    print_set(":", moved.waiting);
+    ulz_asked asked = ulz_ask(&g, start, publish);
+    expect(ULZ_WAITS, asked.number);
+    printf("publish, asked: refused with %d, %s", (int)asked.number, ulz_text(asked.number));
+    print_set(":", asked.waiting);
     printf("\n");
 
     ulz_marking marking = start;
@@ -84,7 +84,9 @@ int main(void) {
     printf("restored, check: %d entry taken\n", (int)ran.entries);
     print_marking("checked", ran.marking);
 
-    moved = ulz_take(&g, ran.marking, publish);
+    expect(ULZ_ANSWERED, ulz_ask(&g, ran.marking, publish).number);
+    printf("publish, asked: allowed\n");
+    ulz_moved moved = ulz_take(&g, ran.marking, publish);
     expect(ULZ_ANSWERED, moved.number);
     print_marking("published", moved.marking);
     ulz_ending ending = ulz_finished(&g, moved.marking);

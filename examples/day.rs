@@ -56,9 +56,9 @@ fn job() -> Graph {
 fn main() -> Result<(), Box<dyn Error>> {
     let (g, start) = (job(), Marking::new(0, 0, 0b111));
     g.check()?;
-    if let Err(refusal @ Refusal::Waits(waiting)) = g.take(start, PUBLISH) {
+    if let Err(refusal @ Refusal::Waits(waiting)) = g.ask(start, PUBLISH) {
         println!(
-            "publish: refused with {}, {}: {:?}",
+            "publish, asked: refused with {}, {}: {:?}",
             refusal.number(),
             refusal.text(),
             shown(waiting)
@@ -92,6 +92,8 @@ fn main() -> Result<(), Box<dyn Error>> {
     println!("restored, check: {} entry taken", passed.entries);
     print_marking("checked", passed.marking);
 
+    g.ask(passed.marking, PUBLISH)?;
+    println!("publish, asked: allowed");
     let published = g.take(passed.marking, PUBLISH)?;
     print_marking("published", published);
     println!(

@@ -11,9 +11,11 @@
  *     ulz_marking m;
  *     if (ulz_read(sheet, length, &g, &m) == ULZ_ANSWERED) {
  *         ulz_entry e = {person, step, role};
- *         ulz_moved moved = ulz_take(&g, m, e);
- *         if (moved.number != ULZ_ANSWERED)
- *             puts(ulz_text(moved.number));
+ *         ulz_asked asked = ulz_ask(&g, m, e);
+ *         if (asked.number == ULZ_ANSWERED)
+ *             m = ulz_take(&g, m, e).marking;
+ *         else
+ *             puts(ulz_text(asked.number));
  *     }
  *
  * Any values may be handed over. Every call looks at all that it is given, the graph included, and answers with ULZ_ANSWERED or
@@ -161,7 +163,7 @@ typedef struct ulz_record {
  *     waiting   with ULZ_WAITS the set of all steps that are waited for: those of conditions[step] that are included and not done
  *               at the marking before the entry. With ULZ_WAITS it is never empty, with every other number it is 0
  *
- * To go through it: for (int s = 0; s < 64; s++) if (moved.waiting >> s & 1) printf("%d\n", s);
+ * To go through it: for (int s = 0; s < 64; s++) if (asked.waiting >> s & 1) printf("%d\n", s);
  *
  * With any number but ULZ_ANSWERED the other fields are 0, except that
  *
@@ -169,6 +171,12 @@ typedef struct ulz_record {
  *     with 11 to 15 ulz_run and ulz_restore give the marking before the refused entry, and its index in entries,
  *     with 11 to 15 ulz_lap gives index and pass of the refused entry.
  */
+
+/* Of ulz_ask. */
+typedef struct ulz_asked {
+    uint64_t number;
+    uint64_t waiting;
+} ulz_asked;
 
 /* Of ulz_finished. */
 typedef struct ulz_ending {
@@ -233,7 +241,7 @@ typedef struct ulz_written {
  * ---- Rules ----
  *
  * An entry is allowed where its person holds the role, its step has the role and is included, and every step in conditions[step]
- * that is included has been done. Then, all read off the marking before:
+ * that is included has been done. Taking it leads to the marking after, all read off the marking before:
  *
  *     done       gains the step
  *     included   gains includes[step], then loses excludes[step]
@@ -243,7 +251,13 @@ typedef struct ulz_written {
 /* Is this a graph? The answer is the number alone. Numbers: 2, 4, 6. */
 uint64_t ulz_check(const ulz_graph *graph);
 
-/* Takes a step. Numbers: 2, 4, 6, 8, 11 to 15. */
+/* Is the entry allowed? Nothing is taken, and all that is handed over stays as it is. Numbers: 2, 4, 6, 8, 11 to 15. */
+ulz_asked ulz_ask(const ulz_graph *graph, ulz_marking marking, ulz_entry entry);
+
+/*
+ * Takes a step: asks, and if the entry is allowed gives the marking after. What ulz_ask refuses is refused here, with the same
+ * number and the same waiting, and nothing else is. Numbers: 2, 4, 6, 8, 11 to 15.
+ */
 ulz_moved ulz_take(const ulz_graph *graph, ulz_marking marking, ulz_entry entry);
 
 /* Is the job finished, with no step at once due and included? Numbers: 2, 4, 6, 8. */

@@ -22,6 +22,7 @@ static uint64_t number;
 
 static void none(void) { number = 0; }
 static void check(void) { number = ulz_check(&graph); }
+static void ask(void) { number = ulz_ask(&graph, start, entry).number; }
 static void take(void) { number = ulz_take(&graph, start, entry).number; }
 static void finished(void) { number = ulz_finished(&graph, start).number; }
 static void keep(void) { number = ulz_keep(&graph, &marking, entry).number; }
@@ -44,10 +45,10 @@ static const struct {
     const char *name;
     void (*call)(void);
 } calls[] = {
-    {"check", check}, {"take", take}, {"finished", finished}, {"keep", keep}, {"run", run}, {"walk", walk}, {"fold", fold},
-    {"join", join}, {"apply", apply}, {"record_read", record_read}, {"record_write", record_write}, {"restore", restore},
-    {"write", writes}, {"read", reads}, {"lap", lap}, {"track_start", track_start}, {"track_idle", track_idle},
-    {"track_step", track_step},
+    {"check", check}, {"ask", ask}, {"take", take}, {"finished", finished}, {"keep", keep}, {"run", run}, {"walk", walk},
+    {"fold", fold}, {"join", join}, {"apply", apply}, {"record_read", record_read}, {"record_write", record_write},
+    {"restore", restore}, {"write", writes}, {"read", reads}, {"lap", lap}, {"track_start", track_start},
+    {"track_idle", track_idle}, {"track_step", track_step},
 };
 
 /* A full graph: everything responds to and includes everything, nothing waits, and person 0 may do it all. */

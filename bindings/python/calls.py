@@ -17,6 +17,7 @@ def waiting(start):
     """Every call that can wait, where publishing waits for all three steps and then for all but the check."""
     graph = job()
     graph.conditions[2] = 0b111
+    assert refused(graph.ask, start, PUBLISH).waiting == 0b111
     why = refused(graph.take, start, PUBLISH)
     assert (why.waiting, str(why)) == (0b111, "15 the step waits for steps that are not done: 0 1 2")
     assert refused(graph.keep, start, PUBLISH).waiting == 0b111
@@ -37,6 +38,13 @@ def main():
     assert refused(Graph.read, sheet[:-1]).refusal == Refusal.LAYOUT
     assert refused(graph.write, start, 74).refusal == Refusal.ROOM
     assert refused(Graph(steps=65, people=1, roles=1).check).refusal == Refusal.COUNTS
+    asked = graph.ask(start, REBOOT), graph.take(start, REBOOT), start
+    assert asked == (None, rebooted, Marking(0, 0, 0b111))
+    for entry, refusal in [((2, 0, 0), Refusal.UNKNOWN), ((1, 1, 0), Refusal.NOT_HELD), ((1, 1, 1), Refusal.NOT_ON_STEP)]:
+        for call in graph.ask, graph.take:
+            assert refused(call, start, Entry(*entry)).refusal == refusal
+    assert refused(graph.ask, rebooted, PUBLISH).refusal == Refusal.EXCLUDED
+    assert refused(graph.ask, Marking(8), REBOOT).refusal == Refusal.OUTSIDE
     assert graph.run(start, bytes(REBOOT) + bytes(CHECK)) == (2, Marking(0b011, 0, 0b111))
     assert refused(graph.run, start, b"\0").refusal == Refusal.LENGTH
     stopped = refused(graph.run, start, bytes(REBOOT) + bytes(PUBLISH))

@@ -38,8 +38,8 @@ def refused(call, *arguments):
 def main():
     graph, start = job(), Marking(done=0, due=0, included=0b111)
     graph.check()
-    why = refused(graph.take, start, PUBLISH)
-    print(f"publish: refused with {why.number}, {why.text}: {shown(why.waiting)}")
+    why = refused(graph.ask, start, PUBLISH)
+    print(f"publish, asked: refused with {why.number}, {why.text}: {shown(why.waiting)}")
 
     marking = Marking(included=0b111)
     graph.keep(marking, REBOOT)
@@ -58,6 +58,8 @@ def main():
     print(f"restored, check: {entries} entry taken")
     print_marking("checked", checked)
 
+    graph.ask(checked, PUBLISH)
+    print("publish, asked: allowed")
     published = graph.take(checked, PUBLISH)
     print_marking("published", published)
     print(f"finished: {'yes' if graph.finished(published) else 'no'}")

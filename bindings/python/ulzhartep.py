@@ -4,10 +4,13 @@ A job is a Graph of steps. People take steps in roles; some steps wait for other
 or excludes them. A set is a number: step s is in it where bit s is 1, 1 << s. Journals, records and sheets are bytes.
 
     graph, marking = Graph.read(open("job.sheet", "rb").read())
+    reboot = Entry(person=0, step=0, role=0)
     try:
-        marking = graph.take(marking, Entry(person=0, step=0, role=0))
+        graph.ask(marking, reboot)
     except Refused as refused:
         print(refused.number, refused.text)
+    else:
+        marking = graph.take(marking, reboot)
 
 A call answers with what the rules say or raises Refused. A number that does not fit its field is an OverflowError.
 
@@ -212,8 +215,12 @@ class Graph(_Block):
         """Is this a graph?"""
         _number(_library.ulz_check(ctypes.byref(self)))
 
+    def ask(self, marking, entry):
+        """Is the entry allowed? Nothing is taken; refused where it is not."""
+        _answered(_library.ulz_ask(ctypes.byref(self), marking, entry))
+
     def take(self, marking, entry):
-        """The marking after the step is taken."""
+        """Takes a step: asks, and if the entry is allowed gives the marking after. What ask refuses is refused here alike."""
         return _answered(_library.ulz_take(ctypes.byref(self), marking, entry)).marking
 
     def keep(self, marking, entry):
@@ -274,6 +281,10 @@ def join(n, first, second):
 def apply(n, record, marking):
     """What a record makes of a marking of n steps."""
     return _answered(_library.ulz_apply(_word(n), *_lent(record), marking)).marking
+
+
+class _Asked(_Block):
+    _fields_ = _fields("number waiting")
 
 
 class _Ending(_Block):
@@ -345,6 +356,7 @@ def _declare(library):
     lent = [data, size]
     for name, answer, takes in [
         ("ulz_check", word, [graph]),
+        ("ulz_ask", _Asked, [graph, Marking, Entry]),
         ("ulz_take", _Moved, [graph, Marking, Entry]),
         ("ulz_finished", _Ending, [graph, Marking]),
         ("ulz_keep", _Kept, [graph, ctypes.POINTER(Marking), Entry]),

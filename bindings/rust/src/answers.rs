@@ -3,6 +3,14 @@
 
 use crate::{Entry, Marking, Track};
 
+/// Of the question whether an entry is allowed.
+#[repr(C)]
+#[derive(Clone, Copy, Default, PartialEq, Eq, Debug)]
+pub struct Asked {
+    pub number: u64,
+    pub waiting: u64,
+}
+
 /// Of the question whether the job is finished: 1 where it is.
 #[repr(C)]
 #[derive(Clone, Copy, Default, PartialEq, Eq, Debug)]

@@ -25,7 +25,14 @@ impl Graph {
         refused(border::check(self), 0)
     }
 
-    /// The marking after the step is taken.
+    /// Is the entry allowed? Nothing is taken.
+    pub fn ask(&self, marking: Marking, entry: Entry) -> Result<(), Refusal> {
+        let asked = border::ask(self, marking, entry);
+        refused(asked.number, asked.waiting)
+    }
+
+    /// Takes a step: asks, and if the entry is allowed gives the marking after. What [`ask`](Graph::ask) refuses is refused here,
+    /// with the same refusal, and nothing else is.
     pub fn take(&self, marking: Marking, entry: Entry) -> Result<Marking, Refusal> {
         let moved = border::take(self, marking, entry);
         refused(moved.number, moved.waiting)?;

@@ -8,8 +8,11 @@
 //! use ulzhartep::{Entry, Graph};
 //!
 //! let (graph, start) = Graph::read(&std::fs::read("job.sheet")?)?;
-//! let after = graph.take(start, Entry { person: 0, step: 0, role: 0 })?;
-//! println!("finished: {}", graph.finished(after)?);
+//! let reboot = Entry { person: 0, step: 0, role: 0 };
+//! match graph.ask(start, reboot) {
+//!     Ok(()) => println!("finished then: {}", graph.finished(graph.take(start, reboot)?)?),
+//!     Err(refusal) => println!("{refusal}"),
+//! }
 //! # Ok(())
 //! # }
 //! ```
@@ -25,7 +28,7 @@ mod record;
 mod refusal;
 mod state;
 
-pub use answers::{Ending, Kept, Lapped, Moved, Ran, Tracked, Walked, Written, ACCEPTED, STARVED};
+pub use answers::{Asked, Ending, Kept, Lapped, Moved, Ran, Tracked, Walked, Written, ACCEPTED, STARVED};
 pub use graph::Graph;
 pub use journals::{apply, join, walk, LapRefused, Passed, Stopped, Verdict};
 pub use record::Record;

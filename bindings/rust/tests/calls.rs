@@ -28,12 +28,31 @@ fn rules() {
     let g = job();
     assert_eq!(g.check(), Ok(()));
     assert_eq!(Graph::bare(65, 1, 1).check(), Err(Refusal::Counts));
-    assert_eq!(g.take(START, REBOOT), Ok(REBOOTED));
-    assert_eq!(g.take(START, PUBLISH), Err(Refusal::Waits(0b010)));
+    assert_eq!((g.ask(START, REBOOT), g.take(START, REBOOT)), (Ok(()), Ok(REBOOTED)));
+    let waits = Refusal::Waits(0b010);
+    assert_eq!((g.ask(START, PUBLISH), g.take(START, PUBLISH)), (Err(waits), Err(waits)));
     let mut kept = START;
-    assert_eq!(g.keep(&mut kept, PUBLISH), Err(Refusal::Waits(0b010)));
+    assert_eq!(g.keep(&mut kept, PUBLISH), Err(waits));
     assert_eq!((g.keep(&mut kept, REBOOT), kept), (Ok(()), REBOOTED));
     assert_eq!((g.finished(START), g.finished(REBOOTED)), (Ok(true), Ok(false)));
+}
+
+/// The question gives what the move is refused with, and a marking with a step beyond comes before any entry.
+#[test]
+fn asked_and_refused() {
+    let g = job();
+    let refused = |marking, person, step, role| {
+        let entry = Entry { person, step, role };
+        let refusal = g.ask(marking, entry).expect_err("not allowed");
+        assert_eq!(g.take(marking, entry), Err(refusal));
+        refusal
+    };
+    assert_eq!(refused(START, 2, 0, 0), Refusal::Unknown);
+    assert_eq!(refused(START, 1, 1, 0), Refusal::NotHeld);
+    assert_eq!(refused(START, 1, 1, 1), Refusal::NotOnStep);
+    assert_eq!(refused(REBOOTED, 1, 2, 1), Refusal::Excluded);
+    assert_eq!(refused(Marking::new(8, 0, 0), 2, 0, 0), Refusal::Outside);
+    assert_eq!(Graph::bare(0, 1, 1).ask(START, REBOOT), Err(Refusal::Counts));
 }
 
 /// Every call that can wait, where publishing waits for all three steps and then for all but the check.
@@ -42,6 +61,7 @@ fn waiting() {
     let mut g = job();
     g.conditions[2] = 0b111;
     let (all, two) = (Refusal::Waits(0b111), Refusal::Waits(0b101));
+    assert_eq!(g.ask(START, PUBLISH), Err(all));
     assert_eq!((g.take(START, PUBLISH), g.keep(&mut { START }, PUBLISH)), (Err(all), Err(all)));
     let late = journal(&[CHECK, PUBLISH]);
     let stopped = g.run(START, &late).expect_err("publish waits");

@@ -14,6 +14,13 @@ pub struct Ending {
     pub finished: u64,
 }
 
+// Nothing but whether the entry is allowed.
+#[repr(C)]
+pub struct Asked {
+    pub number: u64,
+    pub waiting: u64,
+}
+
 // The marking after, or from 11 on the marking handed in.
 #[repr(C)]
 pub struct Moved {

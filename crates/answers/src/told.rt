@@ -1,13 +1,14 @@
 // Number and values of each case of an answer, in words.
 ghost use mathlib.Core.Path.{_≡_};
 ghost use Rattle.moves.specs.First.{numberOfVerdict, numberOf, waitingOf};
-ghost use Rattle.moves.specs.Move.{numberOfMove, waitingOfMove, markingOfMove};
+ghost use Rattle.moves.specs.Move.{numberOfAsked, waitingOfAsked, numberOfMove, waitingOfMove, markingOfMove};
 ghost use Rattle.rules.specs.Answers.{numberOfEnding};
 ghost use Rattle.journal.specs.Run.{numberOfRun, waitingOfRun, indexOfRun, markingOfRun};
 ghost use Rattle.journal.specs.Walk.{numberOfWalked, entryOfWalked};
 ghost use Rattle.records.specs.Answers.{numberOfApplied, markingOfApplied};
 ghost use Rattle.sheet.specs.Sheet.{numberOfWritten, lengthOfWritten};
 ghost use Rattle.answers.specs.Values.{finishedOfEnding, endedOfWalked, lengthOfSpelling};
+use crate::Asked;
 use crate::Ending;
 use crate::Moved;
 use crate::Ran;
@@ -69,6 +70,25 @@ pub fn ending(o: rules::Ending) -> Ending
             number: said(r).number,
             finished: 0,
         },
+    }
+}
+
+pub fn asked(o: moves::Asked) -> Asked
+    ensures { λ r. ⌜ r .number ≡ numberOfAsked o ⌝ }
+    ensures { λ r. ⌜ r .waiting ≡ waitingOfAsked o ⌝ }
+{
+    match o {
+        moves::Asked::Allowed => Asked {
+            number: 0,
+            waiting: 0,
+        },
+        moves::Asked::Refused(r) => {
+            let w = said(r);
+            Asked {
+                number: w.number,
+                waiting: w.waiting,
+            }
+        }
     }
 }
 

@@ -3,9 +3,9 @@
 ghost use mathlib.Core.Path.{_≡_};
 ghost use lib.ListN.{length};
 ghost use Rattle.moves.specs.First.{numberOfVerdict};
-ghost use Rattle.moves.specs.Move.{numberOfMove, waitingOfMove, markingOfMove};
+ghost use Rattle.moves.specs.Move.{numberOfAsked, waitingOfAsked, numberOfMove, waitingOfMove, markingOfMove};
 ghost use Rattle.rules.specs.Graph.{graphOf, graphVerdict};
-ghost use Rattle.rules.specs.Answers.{theMove, theEnding, numberOfEnding};
+ghost use Rattle.rules.specs.Answers.{theAsked, theMove, theEnding, numberOfEnding};
 ghost use Rattle.kept.specs.Keep.{theKept};
 ghost use Rattle.journal.specs.Run.{theRun, numberOfRun, waitingOfRun, indexOfRun, markingOfRun};
 ghost use Rattle.journal.specs.Walk.{strideAt, numberOfWalked, entryOfWalked};
@@ -20,6 +20,7 @@ ghost use Rattle.answers.specs.Lent.{markingOfWords, markingWords, keptOut};
 ghost use Rattle.answers.specs.Folded.{recordIn, recordOf, spellVerdict, bytesOut, wordsOut};
 ghost use Rattle.onward.specs.Tracks.{trackIn, noTrack, trackOfTracked};
 ghost use Rattle.onward.specs.Endless.{LapTold};
+use answers::Asked;
 use answers::Ending;
 use answers::Kept;
 use answers::Moved;
@@ -31,9 +32,6 @@ use answers::lent;
 use answers::told;
 use moves::Entry;
 use moves::Marking;
-use moves::Move;
-use moves::NONE;
-use moves::Verdict;
 use onward::Lapped;
 use onward::Track;
 use onward::Tracked;
@@ -51,16 +49,24 @@ pub extern "C" fn ulz_check(g: &Job) -> u64
 
 // Refusals 2, 4, 6, 8, 11 to 15.
 #[no_mangle]
+pub extern "C" fn ulz_ask(g: &Job, m: Marking, e: Entry) -> Asked
+    ensures { λ r. ⌜ r .number ≡ numberOfAsked (theAsked (graphOf (now (g .entry))) m e) ⌝ }
+    ensures { λ r. ⌜ r .waiting ≡ waitingOfAsked (theAsked (graphOf (now (g .entry))) m e) ⌝ }
+    ensures { λ r. ⌜ now (g .exit) ≡ now (g .entry) ⌝ }
+{
+    let o = rules::ask(g, m, e);
+    told::asked(o)
+}
+
+// As `ulz_ask`, and if it is allowed the marking after.
+#[no_mangle]
 pub extern "C" fn ulz_take(g: &Job, m: Marking, e: Entry) -> Moved
     ensures { λ r. ⌜ r .number ≡ numberOfMove (theMove (graphOf (now (g .entry))) m e) ⌝ }
     ensures { λ r. ⌜ r .waiting ≡ waitingOfMove (theMove (graphOf (now (g .entry))) m e) ⌝ }
     ensures { λ r. ⌜ r .marking ≡ markingOfMove (theMove (graphOf (now (g .entry))) m e) ⌝ }
 {
-    let v = rules::check(g);
-    if let Verdict::Refused(r) = v {
-        return told::moved(Move::Refused(NONE, r));
-    }
-    let o = rules::inner::take_on(g, m, e);
+    let asked = rules::ask(g, m, e);
+    let o = rules::inner::take_asked(g, m, e, asked);
     told::moved(o)
 }
 

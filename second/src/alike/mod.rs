@@ -1,6 +1,8 @@
 //! Two programs with the same commands, side by side over sheets with their journals, markings and records.
 
+mod asking;
 pub(crate) mod call;
+mod entries;
 mod jobs;
 mod play;
 pub(crate) mod report;
@@ -25,6 +27,7 @@ pub fn alike(ulz: &Path, second: &Path, jobs: &Jobs, work: &Path) -> Result<Repo
         let played = Play { job, index }.all(&mut report);
         played.map_err(|why| reason(job.sheet.shown.as_ref(), why))?;
     }
+    entries::play(&work.join("entries"), &mut report).map_err(|why| format!("entries after journals: {why}"))?;
     uses::play(&work.join("uses"), &mut report).map_err(|why| format!("right and wrong use: {why}"))?;
     Ok(report)
 }

@@ -1,6 +1,7 @@
 //! Every command over a job: over each of its files, and over pairs of journals.
 
 use super::{
+    asking::{choices, marking, named, taken},
     call::Call,
     jobs::{File, Job},
     report::{Came, Report},
@@ -54,6 +55,30 @@ impl Play<'_> {
             report.ask(from("run").out(&self.own(&format!("{i}.from.{k}"))))?;
             report.ask(from("may"))?;
             report.ask(from("track"))?;
+        }
+        self.entries(report, i, journal)
+    }
+
+    /// Entries after the journal, asked for and taken, the latter after a copy of it; after one journal of a job from a marking.
+    fn entries(&self, report: &mut Report, i: usize, journal: &File) -> io::Result<()> {
+        let turn = 4 * self.index + i;
+        let from = self.job.markings.first().filter(|_| i == self.index % 4);
+        let [Ok(sheet), Ok(before)] = [&self.job.sheet, journal].map(|file| fs::read(&file.path)) else {
+            return Ok(());
+        };
+        let start = from.and_then(|file| marking(&fs::read(&file.path).ok()?));
+        let with_from = |call: Call| match from {
+            Some(marking) => call.word("--from").word(&marking.path),
+            None => call,
+        };
+        for entry in choices(&sheet, &before, start, turn) {
+            report.ask(with_from(named(self.call("ask").word(&journal.path), entry)))?;
+            report.ask(with_from(taken(
+                self.call("take"),
+                &self.own(&format!("{i}.journal")),
+                Some(&before),
+                entry,
+            )))?;
         }
         Ok(())
     }

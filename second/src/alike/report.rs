@@ -52,7 +52,7 @@ impl Report {
         let (first, second) = (one.start(&call)?, other.start(&call)?);
         let heard = [one.finish(&call, first)?, other.finish(&call, second)?];
         self.commands += 1;
-        let came = came(&heard);
+        let came = came(&call, &heard);
         match &came {
             Came::Refused(number, _) => *self.numbers.entry(*number).or_default() += 1,
             Came::Different => {
@@ -142,8 +142,8 @@ impl Report {
 }
 
 /// They are alike, and each keeps to the form: a complaint is one line, with status 2 and nothing else to be read; only a fold that
-/// is held back has lines and a complaint.
-fn came([one, other]: &[Heard; 2]) -> Came {
+/// is held back has lines and a complaint. A journal has the entry if it was taken, and is otherwise as it was.
+fn came(call: &Call, [one, other]: &[Heard; 2]) -> Came {
     let text = String::from_utf8_lossy(&one.out);
     let never = text.starts_with("never: yes\n");
     let refused = text.lines().find_map(|line| line.strip_prefix("refused: ")?.split(' ').next()?.parse().ok());
@@ -153,8 +153,9 @@ fn came([one, other]: &[Heard; 2]) -> Came {
     } else {
         one.err == Complaint::None && (0..=2).contains(&one.status)
     };
+    let in_journal = call.journal.as_ref().is_none_or(|journal| one.file == journal.after(one.status == 0));
     match refused {
-        _ if one != other || !in_form => Came::Different,
+        _ if one != other || !in_form || !in_journal => Came::Different,
         Some(number) => Came::Refused(number, refused_entry(&text)),
         None if failed && never => Came::Never,
         None if failed => Came::Failed,

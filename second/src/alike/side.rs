@@ -1,4 +1,4 @@
-use super::call::Call;
+use super::call::{Call, Journal};
 use std::fs::{self, File};
 use std::io;
 use std::path::{Path, PathBuf};
@@ -31,9 +31,13 @@ pub enum Complaint {
 }
 
 /// How the lines end whose words are fixed.
-const FIXED: [&str; 3] = [
+const FIXED: [&str; 7] = [
     ": exists already; --force writes over it",
+    ": is read by this call, and is not written over",
+    ": is there and is no ordinary file",
+    ": the journal is a file, and has to be named",
     ": a marking has 24 bytes",
+    ": a person, step or role is a number, digits 0 to 9 alone",
     ": no marking lets this journal pass, nothing is written; --never writes the record that says so",
 ];
 
@@ -48,6 +52,9 @@ impl Side {
     }
 
     pub fn start(&self, call: &Call) -> io::Result<Child> {
+        if let Some(journal) = &call.journal {
+            self.put(journal)?;
+        }
         let input = match &call.input {
             Some(file) => Stdio::from(File::open(file)?),
             None => Stdio::null(),
@@ -59,6 +66,15 @@ impl Side {
             .stdout(Stdio::piped())
             .stderr(Stdio::piped())
             .spawn()
+    }
+
+    fn put(&self, journal: &Journal) -> io::Result<()> {
+        let file = self.folder.join(&journal.name);
+        match &journal.before {
+            Some(bytes) => fs::write(file, bytes),
+            None if file.exists() => fs::remove_file(file),
+            None => Ok(()),
+        }
     }
 
     pub fn finish(&self, call: &Call, child: Child) -> io::Result<Heard> {

@@ -1,6 +1,9 @@
 //! Right and wrong use, over the sample job, whose files are copies: a wrong program may write over them.
 
-use super::{call::Call, report::Report};
+use super::{
+    call::{Call, Journal},
+    report::Report,
+};
 use crate::cases::{jobs, Dice};
 use std::ffi::OsStr;
 use std::fs;
@@ -9,11 +12,13 @@ use std::os::unix::ffi::OsStrExt;
 use std::path::{Path, PathBuf};
 
 /// What each command takes; a capital letter stands for a file of the job.
-const USES: [&str; 15] = [
+const USES: [&str; 17] = [
     "check S",
     "show S",
     "write S OUT",
     "may S J",
+    "ask S J 0 0 0",
+    "take S J 0 0 0",
     "run S J OUT",
     "finished S J",
     "fold S J OUT",
@@ -106,10 +111,18 @@ impl Job {
         ["S", "J", "M", "R", "D"].contains(&word).then(|| self.0.join(word))
     }
 
+    /// The journal of a call that takes a step is the program's own.
     fn call(&self, words: &str) -> Call {
-        words.split_whitespace().fold(Call::default(), |call, word| match self.file(word) {
-            Some(file) => call.word(file),
-            None => call.word(word),
+        let words: Vec<&str> = words.split_whitespace().collect();
+        let own = words.iter().position(|word| *word == "take").map(|place| place + 2);
+        words.iter().enumerate().fold(Call::default(), |call, (place, word)| match (*word, self.file(word)) {
+            ("J" | "not-there", file) if Some(place) == own => call.journal(Journal {
+                name: "use.journal".into(),
+                before: file.and_then(|file| fs::read(file).ok()),
+                added: [0; 3],
+            }),
+            (_, Some(file)) => call.word(file),
+            _ => call.word(word),
         })
     }
 

@@ -5,5 +5,6 @@ mod bytes;
 
 pub use bytes::Bytes;
 pub use ulzhartep::{
-    Ending, Entry, Graph, Kept, Lapped, Marking, Moved, Ran, Record, Track, Tracked, Walked, Written, ACCEPTED, STARVED,
+    Asked, Ending, Entry, Graph, Kept, Lapped, Marking, Moved, Ran, Record, Track, Tracked, Walked, Written, ACCEPTED,
+    STARVED,
 };

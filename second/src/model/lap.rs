@@ -1,10 +1,5 @@
-use super::{
-    check::refused,
-    journal::entries,
-    take::{enter, Refusal},
-    Graph, Marking,
-};
-use crate::data::{self, Entry, Lapped, ACCEPTED, STARVED};
+use super::{check::refused, journal::entries, take::take_entry, Graph, Marking};
+use crate::data::{self, Asked, Entry, Lapped, ACCEPTED, STARVED};
 
 /// One point of the run: the marking there, and the step that is then done.
 struct Point {
@@ -46,9 +41,9 @@ fn endless(g: &Graph, mut at: Marking, stem: &[Entry], lap: &[Entry]) -> Lapped 
 /// Runs the entries and adds their points, or tells where it stopped.
 fn go(g: &Graph, at: &mut Marking, entries: &[Entry], run: &mut Vec<Point>) -> Result<(), Lapped> {
     for (index, entry) in (0..).zip(entries) {
-        match enter(g, at, *entry) {
+        match take_entry(g, at, *entry) {
             Ok(after) => run.push(Point { marking: std::mem::replace(at, after), step: entry.step.into() }),
-            Err(Refusal { number, waiting }) => return Err(Lapped { number, waiting, index, ..Lapped::default() }),
+            Err(Asked { number, waiting }) => return Err(Lapped { number, waiting, index, ..Lapped::default() }),
         }
     }
     Ok(())

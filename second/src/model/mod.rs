@@ -4,6 +4,7 @@
 //! A call takes the model's own graph, so that one is read once for many calls, and otherwise what the border takes. It answers
 //! what the border answers; where that is written to lent memory, it gives the content, or the number of the refusal.
 
+mod ask;
 mod check;
 mod finished;
 mod graph;
@@ -17,6 +18,7 @@ mod take;
 mod track;
 mod walk;
 
+pub use ask::{ask, ask_entry, waiting};
 pub use check::check;
 pub use finished::finished;
 pub use graph::{members, targets, Graph, Set};
@@ -24,7 +26,7 @@ pub use journal::entries;
 pub use lap::lap;
 pub use marking::Marking;
 pub use run::run;
-pub use take::{keep, take, waiting};
+pub use take::{keep, take, take_entry};
 pub use track::{track_entry, track_idle, track_start, track_step};
 pub use walk::Walk;
 

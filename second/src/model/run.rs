@@ -1,10 +1,5 @@
-use super::{
-    check::refused,
-    journal::entries,
-    take::{enter, Refusal},
-    Graph, Marking,
-};
-use crate::data::{self, Entry, Ran};
+use super::{check::refused, journal::entries, take::take_entry, Graph, Marking};
+use crate::data::{self, Asked, Entry, Ran};
 
 /// The entries one after the other, up to the first that is not allowed.
 pub fn run(g: &Graph, m: data::Marking, journal: &[u8]) -> Ran {
@@ -18,9 +13,9 @@ pub fn run(g: &Graph, m: data::Marking, journal: &[u8]) -> Ran {
 /// The same where graph, journal and marking are as they should be.
 pub fn run_entries(g: &Graph, mut m: Marking, all: &[Entry]) -> Ran {
     for (entries, entry) in (0..).zip(all) {
-        match enter(g, &m, *entry) {
+        match take_entry(g, &m, *entry) {
             Ok(after) => m = after,
-            Err(Refusal { number, waiting }) => return Ran { number, waiting, entries, marking: m.write() },
+            Err(Asked { number, waiting }) => return Ran { number, waiting, entries, marking: m.write() },
         }
     }
     Ran { entries: all.len() as u64, marking: m.write(), ..Ran::default() }

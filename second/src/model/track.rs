@@ -1,9 +1,5 @@
-use super::{
-    check::refused,
-    take::{enter, Refusal},
-    Graph, Marking, Set,
-};
-use crate::data::{self, Entry, Track, Tracked};
+use super::{check::refused, take::take_entry, Graph, Marking, Set};
+use crate::data::{self, Asked, Entry, Track, Tracked};
 
 /// Rank 1, and the flag tells whether the job is finished.
 pub fn track_start(g: &Graph, m: data::Marking) -> Tracked {
@@ -31,12 +27,12 @@ pub fn track_step(g: &Graph, track: Track, entry: Entry) -> Tracked {
 /// The same where graph, marking and rank are as they should be: only the entry is looked at.
 pub fn track_entry(g: &Graph, track: Track, entry: Entry) -> Tracked {
     let before = Marking::read(track.marking);
-    match enter(g, &before, entry) {
+    match take_entry(g, &before, entry) {
         Ok(after) => {
             let (rank, flag) = go_along(&before.pending(), &after.pending(), track.rank, entry.step.into());
             at(Track { marking: after.write(), rank, flag: flag.into() })
         }
-        Err(Refusal { number, waiting }) => Tracked { number, waiting, track },
+        Err(Asked { number, waiting }) => Tracked { number, waiting, track },
     }
 }
 

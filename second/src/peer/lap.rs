@@ -2,7 +2,7 @@ use super::{
     check::{inside, well_formed},
     journal::{entries, entry},
     run::run_entries,
-    take::enter,
+    take::take_entry,
     Refusal,
 };
 use crate::data::{Graph, Lapped, Marking, Ran, ACCEPTED, STARVED};
@@ -43,7 +43,7 @@ fn untouched(g: &Graph, mut m: Marking, lap: &[[u8; 3]]) -> Result<u64, Lapped> 
     let mut steps = u64::MAX;
     for (index, bytes) in lap.iter().enumerate() {
         let pending = m.due & m.included;
-        m = enter(g, m, entry(bytes)).map_err(|refusal| {
+        m = take_entry(g, m, entry(bytes)).map_err(|refusal| {
             let (number, waiting) = (refusal.number(), refusal.waiting());
             Lapped { number, waiting, index: index as u64, pass: 2, ..Lapped::default() }
         })?;

@@ -1,7 +1,7 @@
 use super::{
     check::{inside, well_formed},
     journal::{entries, entry},
-    take::enter,
+    take::take_entry,
     Refusal,
 };
 use crate::data::{Graph, Marking, Ran};
@@ -24,7 +24,7 @@ pub fn ready<'a>(g: &Graph, m: Marking, journal: &'a [u8]) -> Result<&'a [[u8; 3
 /// The run on a graph and a marking that have been checked.
 pub fn run_entries(g: &Graph, mut m: Marking, entries: &[[u8; 3]]) -> Ran {
     for (index, bytes) in entries.iter().enumerate() {
-        match enter(g, m, entry(bytes)) {
+        match take_entry(g, m, entry(bytes)) {
             Ok(after) => m = after,
             Err(refusal) => {
                 let (number, waiting) = (refusal.number(), refusal.waiting());

@@ -1,4 +1,4 @@
-use super::{check::sound, Refusal};
+use super::{ask::ask_entry, check::sound, Refusal};
 use crate::data::{Entry, Graph, Kept, Marking, Moved};
 
 pub fn take(g: &Graph, m: Marking, e: Entry) -> Moved {
@@ -22,40 +22,17 @@ pub fn keep(g: &Graph, m: &mut Marking, e: Entry) -> Kept {
 #[inline]
 fn taken(g: &Graph, m: Marking, e: Entry) -> Result<Marking, Refusal> {
     sound(g, m)?;
-    enter(g, m, e)
+    take_entry(g, m, e)
 }
 
 /// The move on a graph and a marking that have been checked.
 #[inline(always)]
-pub fn enter(g: &Graph, m: Marking, e: Entry) -> Result<Marking, Refusal> {
-    if !known(g, e) {
-        return Err(Refusal::Unknown);
-    }
-    let (person, step) = (usize::from(e.person), usize::from(e.step));
-    let (this, role) = (1u64 << e.step, 1u64 << e.role);
-    let Marking { done, due, included } = m;
-    if g.holds[person] & role == 0 {
-        return Err(Refusal::NotHeld);
-    }
-    if g.allows[step] & role == 0 {
-        return Err(Refusal::NotOnStep);
-    }
-    if included & this == 0 {
-        return Err(Refusal::Excluded);
-    }
-    let waiting = g.conditions[step] & included & !done;
-    if waiting != 0 {
-        return Err(Refusal::Waits(waiting));
-    }
+pub fn take_entry(g: &Graph, m: Marking, e: Entry) -> Result<Marking, Refusal> {
+    ask_entry(g, m, e)?;
+    let (step, this) = (usize::from(e.step), 1u64 << e.step);
     Ok(Marking {
-        done: done | this,
-        due: (due & !this) | g.responses[step],
-        included: (included | g.includes[step]) & !g.excludes[step],
+        done: m.done | this,
+        due: (m.due & !this) | g.responses[step],
+        included: (m.included | g.includes[step]) & !g.excludes[step],
     })
-}
-
-/// Person, step and role are below their counts, each of which fits into a byte where the graph has been checked.
-#[inline]
-pub fn known(g: &Graph, e: Entry) -> bool {
-    e.person < g.people as u8 && e.step < g.steps as u8 && e.role < g.roles as u8
 }

@@ -1,6 +1,6 @@
 use super::{
     check::{first, sound},
-    take::enter,
+    take::take_entry,
     Refusal,
 };
 use crate::data::{Entry, Graph, Marking, Track, Tracked};
@@ -43,7 +43,7 @@ fn idled(g: &Graph, track: Track) -> Result<Track, Refusal> {
 #[inline]
 fn stepped(g: &Graph, track: Track, e: Entry) -> Result<Track, Refusal> {
     ranked(g, track)?;
-    let marking = enter(g, track.marking, e)?;
+    let marking = take_entry(g, track.marking, e)?;
     let (before, left) = (pending(track.marking), pending(marking));
     let above = before & !first(track.rank);
     let next = if above != 0 { above } else { before };

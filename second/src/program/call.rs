@@ -1,8 +1,9 @@
 use super::{
     commands::Command,
+    entries::AnyEntry,
     files::{self, Input},
     help,
-    words::{operands, sorted, Operands, Words},
+    words::{number, operands, sorted, Operands, Words},
     Answer, Given, Lines,
 };
 use std::ffi::{OsStr, OsString};
@@ -80,14 +81,30 @@ fn named(name: &OsStr) -> Result<&'static Command, Vec<u8>> {
 }
 
 fn given(operands: &Operands, from: Option<&OsStr>) -> Result<Given, Vec<u8>> {
-    if let Some(out) = operands.out {
+    let entry = entry(&operands.entry)?;
+    if operands.added_to.is_some_and(|name| name == "-") {
+        return Err(b"-: the journal is a file, and has to be named".to_vec());
+    }
+    if let Some(out) = operands.out.or(operands.added_to) {
         let read = operands.inputs.iter().map(|(_, name)| *name);
         if read.chain(from).any(|name| files::same(name, out)) {
             return Err([out.as_bytes(), b": is read by this call, and is not written over"].concat());
         }
     }
-    let files = operands.inputs.iter().map(|(kind, name)| input(kind, name)).collect::<Result<_, _>>()?;
-    Ok(Given { n: operands.n, files, from: from.map(|name| input("MARKING", name)).transpose()? })
+    let read = operands.inputs.iter().map(|(kind, name)| input(kind, name));
+    let files = read.chain(operands.added_to.map(files::read_if_there)).collect::<Result<_, _>>()?;
+    Ok(Given { n: operands.n, entry, files, from: from.map(|name| input("MARKING", name)).transpose()? })
+}
+
+/// Of three words, or of none where the command takes no entry.
+fn entry(words: &[&OsStr]) -> Result<AnyEntry, Vec<u8>> {
+    let wrong = b": a person, step or role is a number, digits 0 to 9 alone";
+    let numbers = words.iter().map(|word| number(word).ok_or_else(|| [word.as_bytes(), wrong].concat()));
+    let numbers: Vec<u64> = numbers.collect::<Result<_, _>>()?;
+    Ok(match numbers[..] {
+        [person, step, role] => AnyEntry { person, step, role },
+        _ => AnyEntry::default(),
+    })
 }
 
 fn input(kind: &str, name: &OsStr) -> Result<Input, Vec<u8>> {
@@ -98,8 +115,11 @@ fn input(kind: &str, name: &OsStr) -> Result<Input, Vec<u8>> {
     Ok(input)
 }
 
-/// Writes the file, if there is to be one, and says so after the other lines.
+/// Writes the file, if there is to be one, and says so after the other lines; or adds to it, which the lines say.
 fn written(answer: Answer, operands: &Operands, force: bool) -> Result<Lines, Vec<u8>> {
+    if let Some(journal) = operands.added_to {
+        files::append(journal, &answer.bytes)?;
+    }
     let Some(out) = operands.out else { return Ok(answer.lines) };
     files::write(out, &answer.bytes, force)?;
     Ok(answer.lines.say("wrote", format_args!("{} bytes", answer.bytes.len())))

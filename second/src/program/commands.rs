@@ -1,8 +1,8 @@
-use super::{journals, markings, records, sheets, Given, Reply};
+use super::{asking, journals, markings, records, sheets, Given, Reply};
 
 pub struct Command {
     pub name: &'static str,
-    /// N is a number, OUT a file that is written; the others are files that are read.
+    /// N is a number, PERSON, STEP and ROLE are an entry, OUT is a file that is written; the others are files that are read.
     pub takes: &'static str,
     /// Besides --force, which goes with OUT.
     pub options: &'static [&'static str],
@@ -13,6 +13,11 @@ pub struct Command {
 impl Command {
     pub fn named(name: &[u8]) -> Option<&'static Command> {
         COMMANDS.iter().find(|command| command.name.as_bytes() == name)
+    }
+
+    /// Its answer is added to the journal, which need not be there.
+    pub fn adds(&self) -> bool {
+        self.name == "take"
     }
 
     pub fn has_option(&self, option: &str) -> bool {
@@ -45,11 +50,15 @@ const fn command(
     Command { name, takes, options, says, answer }
 }
 
-pub static COMMANDS: [Command; 15] = [
+const ENTRY: &str = "SHEET JOURNAL PERSON STEP ROLE";
+
+pub static COMMANDS: [Command; 17] = [
     command("check", "SHEET", &[], "is the sheet one?", sheets::check),
     command("show", "SHEET", &[], "what the sheet holds", sheets::show),
     command("write", "SHEET OUT", &[], "the sheet, read and written again", sheets::write),
     command("may", "SHEET JOURNAL", &["--from"], "who may take which step after the journal", journals::may),
+    command("ask", ENTRY, &["--from"], "is the entry allowed after the journal?", asking::ask),
+    command("take", ENTRY, &["--from"], "the same, and an allowed entry is added to the journal", asking::take),
     command("run", "SHEET JOURNAL [OUT]", &["--from"], "where the journal leads", journals::run),
     command("finished", "SHEET JOURNAL", &["--status"], "is the job finished after the journal?", journals::finished),
     command("fold", "SHEET JOURNAL OUT", &["--never"], "the journal's record", records::fold),

@@ -5,6 +5,7 @@ use std::fs::{self, File, OpenOptions};
 use std::io::{self, stdin, ErrorKind, Read, Write};
 use std::ops::Deref;
 use std::os::unix::{ffi::OsStrExt, fs::MetadataExt};
+use std::path::Path;
 
 /// One byte more than any input may have: what is longer still is refused by the same number.
 const MOST: u64 = 65_536;
@@ -36,6 +37,41 @@ pub fn read(name: &OsStr) -> Result<Input, Vec<u8>> {
         _ => File::open(name).and_then(|file| file.take(MOST).read_to_end(&mut bytes)),
     };
     read.map(|_| Input { name: name.as_bytes().into(), bytes }).map_err(|why| reason(name, &why))
+}
+
+/// The same of a file that is to be added to: one that is not there is empty.
+pub fn read_if_there(name: &OsStr) -> Result<Input, Vec<u8>> {
+    match fs::metadata(name) {
+        Ok(there) if !there.is_file() => Err([name.as_bytes(), b": is there and is no ordinary file"].concat()),
+        Err(why) if why.kind() == ErrorKind::NotFound => Ok(Input { name: name.as_bytes().into(), bytes: Vec::new() }),
+        _ => read(name),
+    }
+}
+
+/// Adds to the end of a file, which is made where it is not there. When this is answered, all of it is on the device.
+pub fn append(name: &OsStr, bytes: &[u8]) -> Result<(), Vec<u8>> {
+    let made = fs::metadata(name).is_err();
+    let added = added(name, bytes).and_then(|()| if made { sync_folder(name) } else { Ok(()) });
+    added.map_err(|why| reason(name, &why))
+}
+
+/// A write that fails is taken back.
+fn added(name: &OsStr, bytes: &[u8]) -> io::Result<()> {
+    let mut file = OpenOptions::new().append(true).create(true).open(name)?;
+    let before = file.metadata()?.len();
+    if let Err(why) = file.write_all(bytes) {
+        file.set_len(before)?;
+        return Err(why);
+    }
+    file.sync_all()
+}
+
+/// A file's name is on the device with its folder.
+fn sync_folder(name: &OsStr) -> io::Result<()> {
+    match Path::new(name).parent() {
+        Some(folder) if folder != Path::new("") => File::open(folder)?.sync_all(),
+        _ => File::open(".")?.sync_all(),
+    }
 }
 
 /// A file that exists is left as it is, unless this is forced.

@@ -7,8 +7,8 @@ mod sheets;
 pub use records::{record, stated, unapplied};
 pub use sheets::sheet;
 
-use super::lines::set;
-use crate::data::{self, Entry};
+use super::{entries::AnyEntry, lines::set};
+use crate::data;
 use crate::model::{members, targets, waiting, Graph, Marking};
 use std::collections::BTreeSet;
 use std::fmt::Display;
@@ -66,6 +66,12 @@ pub fn journal(journal: &[u8]) -> Option<Finding> {
     see(right, length(journal), "a multiple of 3, at most 65535").err()
 }
 
+/// Number 7 of a journal that an entry is to be added to.
+pub fn full(journal: &[u8]) -> Option<Finding> {
+    let found = format!("{}, a full journal", length(journal));
+    see(journal.len() < 65_535, found, "at most 65532, so that an entry can be added").err()
+}
+
 /// Number 17.
 pub fn lap(lap: &[u8]) -> Option<Finding> {
     see(!lap.is_empty(), "the lap has 0 entries", "at least 1").err()
@@ -77,12 +83,11 @@ pub fn marking(m: data::Marking, steps: u64) -> Option<Finding> {
 }
 
 /// Why an entry is not allowed at a marking, with a number from 11 to 15.
-pub fn entry(g: &Graph, m: &Marking, entry: Entry) -> Option<Finding> {
-    not_allowed(g, m, entry).err()
+pub fn entry(g: &Graph, m: &Marking, entry: impl Into<AnyEntry>) -> Option<Finding> {
+    not_allowed(g, m, entry.into()).err()
 }
 
-fn not_allowed(g: &Graph, m: &Marking, entry: Entry) -> Look {
-    let [person, step, role] = [entry.person, entry.step, entry.role].map(u64::from);
+fn not_allowed(g: &Graph, m: &Marking, AnyEntry { person, step, role }: AnyEntry) -> Look {
     see(person < g.people, format_args!("person {person}"), all("people", g.people))?;
     see(step < g.steps, format_args!("step {step}"), all("steps", g.steps))?;
     see(role < g.roles, format_args!("role {role}"), all("roles", g.roles))?;

@@ -1,13 +1,14 @@
 use super::{
+    entries::AnyEntry,
     files::Input,
     findings,
-    lines::{flag, rank_and_flag, set, words_of, Lines},
+    lines::{flag, rank_and_flag, set, Lines},
     markings::stored,
     sheets::read,
     Answer, Given, Reply,
 };
-use crate::data::{self, Entry, Lapped, Ran, Tracked, ACCEPTED};
-use crate::model::{self, Graph, Marking};
+use crate::data::{self, Asked, Entry, Lapped, Ran, Tracked, ACCEPTED};
+use crate::model::{self, members, Graph, Marking};
 
 pub fn run(given: &Given) -> Reply {
     let [sheet, journal] = given.files();
@@ -17,15 +18,23 @@ pub fn run(given: &Given) -> Reply {
     Ok(Answer { bytes: ran.marking.bytes(), ..Answer::new(lines.ending(&end)) })
 }
 
-/// The graph, and the marking to start from: the sheet's, or the one that was named instead. 7 comes before 8.
+/// The graph, and the marking to start from. 7 comes before 8: where a journal will be refused the marking is any.
 fn begun(given: &Given, sheet: &Input, journals: &[&Input]) -> Result<(Graph, data::Marking), Lines> {
     let (g, first) = read(sheet)?;
-    let Some(from) = &given.from else { return Ok((g, first.write())) };
+    if journals.iter().any(|journal| findings::journal(journal).is_some()) {
+        return Ok((g, first.write()));
+    }
+    let start = start(given, &g, first)?;
+    Ok((g, start))
+}
+
+/// The sheet's marking, or the one that was named instead.
+pub fn start(given: &Given, g: &Graph, first: Marking) -> Result<data::Marking, Lines> {
+    let Some(from) = &given.from else { return Ok(first.write()) };
     let start = stored(from);
-    let lengths = journals.iter().any(|journal| findings::journal(journal).is_some());
     match findings::marking(start, g.steps) {
-        Some(finding) if !lengths => Err(Lines::refused_for(8, from, Some(finding))),
-        _ => Ok((g, start)),
+        Some(finding) => Err(Lines::refused_for(8, from, Some(finding))),
+        None => Ok(start),
     }
 }
 
@@ -40,9 +49,7 @@ pub fn entries(given: &Given) -> Reply {
     let [journal] = given.files();
     let entries = all(journal)?;
     let lines = Lines::default().say("entries", entries.len());
-    let entries = entries.into_iter().enumerate();
-    let lines = entries.fold(lines, |lines, (i, entry)| lines.say(format_args!("entry {i}"), words_of(entry)));
-    Ok(Answer::new(lines))
+    Ok(Answer::new((0..).zip(entries).fold(lines, |lines, (i, entry)| lines.entry(i, entry))))
 }
 
 fn all(journal: &Input) -> Result<Vec<Entry>, Lines> {
@@ -78,20 +85,20 @@ pub fn may(given: &Given) -> Reply {
     Ok(Answer::new(lines.ending(&end)))
 }
 
-/// Who may take the step, or why nobody may.
+/// Everyone is asked in every role. Where all are refused, the highest number is the one that the best suited are refused with.
 fn may_take(lines: Lines, g: &Graph, m: &Marking, step: u64) -> Lines {
-    let waits_for = model::waiting(g, m, step);
-    if !m.included.contains(&step) {
-        return lines.say("blocked", format_args!("step {step}, not included"));
+    let everyone = (0..g.people).flat_map(|person| (0..g.roles).map(move |role| AnyEntry { person, step, role }));
+    let asked = everyone.map(|entry| (entry, model::ask_entry(g, m, entry.stored())));
+    let (allowed, refused): (Vec<_>, Vec<_>) = asked.partition(|(_, asked)| asked.number == 0);
+    if allowed.is_empty() {
+        let why = match refused.iter().map(|(_, asked)| *asked).max_by_key(|asked| asked.number) {
+            Some(Asked { number: 15, waiting }) => format!("waits for {}", set(&members(waiting))),
+            Some(Asked { number: 14, .. }) => "not included".into(),
+            _ => "nobody holds a role that it has".into(),
+        };
+        return lines.say("blocked", format_args!("step {step}, {why}"));
     }
-    if !waits_for.is_empty() {
-        return lines.say("blocked", format_args!("step {step}, waits for {}", set(&waits_for)));
-    }
-    let who: Vec<_> = g.holds.iter().filter(|(_, role)| g.allows.contains(&(step, *role))).collect();
-    if who.is_empty() {
-        return lines.say("blocked", format_args!("step {step}, nobody holds a role that it has"));
-    }
-    who.iter().fold(lines, |lines, (person, role)| {
+    allowed.iter().fold(lines, |lines, (AnyEntry { person, role, .. }, _)| {
         lines.say("may", format_args!("step {step}, person {person}, role {role}"))
     })
 }
@@ -112,7 +119,8 @@ pub fn track(given: &Given) -> Reply {
             return Err(lines.marking(&Marking::read(at.marking)));
         }
         at = track;
-        lines = lines.say(format_args!("entry {index}"), format_args!("{}, {}", words_of(entry), rank_and_flag(at)));
+        lines =
+            lines.say(format_args!("entry {index}"), format_args!("{}, {}", AnyEntry::from(entry), rank_and_flag(at)));
     }
     Ok(Answer::new(lines.marking(&Marking::read(at.marking))))
 }

@@ -1,11 +1,12 @@
 //! What an answer looks like: lines `key: value`.
 
 use super::{
+    entries::AnyEntry,
     files::{shown, Input},
     findings::Finding,
     refusals,
 };
-use crate::data::{Entry, Record, Track};
+use crate::data::{Record, Track};
 use crate::model::{members, Marking};
 use std::fmt::Display;
 use std::io::Write;
@@ -49,9 +50,13 @@ impl Lines {
         }
     }
 
+    pub fn entry(self, index: u64, entry: impl Into<AnyEntry>) -> Self {
+        self.say(format_args!("entry {index}"), entry.into())
+    }
+
     /// The entry that was refused with this number, and every step that it waits for where that is the reason.
-    pub fn refused_entry(self, index: u64, entry: Entry, number: u64, waiting: u64) -> Self {
-        let lines = self.say(format_args!("entry {index}"), words_of(entry));
+    pub fn refused_entry(self, index: u64, entry: impl Into<AnyEntry>, number: u64, waiting: u64) -> Self {
+        let lines = self.entry(index, entry);
         if number == 15 {
             return lines.say("waits for", set(&members(waiting)));
         }
@@ -85,10 +90,6 @@ pub fn set<'a>(members: impl IntoIterator<Item = &'a u64>) -> String {
         return "none".into();
     }
     numbers.join(" ")
-}
-
-pub fn words_of(entry: Entry) -> String {
-    format!("person {}, step {}, role {}", entry.person, entry.step, entry.role)
 }
 
 pub fn rank_and_flag(track: Track) -> String {

@@ -1,7 +1,9 @@
 //! The model as a program: the commands of `ulz`, and the lines that they print.
 
+mod asking;
 mod call;
 mod commands;
+mod entries;
 mod files;
 pub(crate) mod findings;
 mod generate;
@@ -20,13 +22,14 @@ pub use generate::generate;
 #[cfg(test)]
 pub use never::because;
 
+use entries::AnyEntry;
 use files::Input;
 use lines::Lines;
 
 /// An answer, or the lines of a refusal.
 type Reply = Result<Answer, Lines>;
 
-/// The lines of an answer, and the bytes for its file.
+/// The lines of an answer, and the bytes for its file: the whole of it, or what is added to it.
 struct Answer {
     lines: Lines,
     bytes: Vec<u8>,
@@ -42,9 +45,10 @@ impl Answer {
     }
 }
 
-/// What a command is given: a number, files that were read, and the marking to start from.
+/// What a command is given: a number, an entry, files that were read, and the marking to start from.
 struct Given {
     n: u64,
+    entry: AnyEntry,
     files: Vec<Input>,
     from: Option<Input>,
 }

@@ -1,11 +1,11 @@
-use super::lines::words_of;
+use super::entries::AnyEntry;
 use crate::data::Entry;
 use crate::model::{self, Graph};
 
 /// The first entry of a journal that no marking could allow, with the reason; for a journal whose record is never.
 pub fn because(g: &Graph, journal: &[u8]) -> Option<(usize, String)> {
     let entries = model::entries(journal)?;
-    (0..entries.len()).find_map(|at| Some((at, format!("{}, {}", words_of(entries[at]), why(g, &entries, at)?))))
+    (0..entries.len()).find_map(|at| Some((at, format!("{}, {}", AnyEntry::from(entries[at]), why(g, &entries, at)?))))
 }
 
 fn why(g: &Graph, entries: &[Entry], at: usize) -> Option<String> {

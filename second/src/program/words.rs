@@ -37,11 +37,14 @@ pub fn sorted(words: &[OsString]) -> Result<Words<'_>, Vec<u8>> {
     Ok(sorted)
 }
 
-/// The operands behind the command: a number, files to be read, and a file to be written.
+/// The operands behind the command: a number, the words of an entry, files to be read, and a file to be written or added to.
+#[derive(Default)]
 pub struct Operands<'a> {
     pub n: u64,
+    pub entry: Vec<&'a OsStr>,
     pub inputs: Vec<(&'static str, &'a OsStr)>,
     pub out: Option<&'a OsStr>,
+    pub added_to: Option<&'a OsStr>,
 }
 
 /// Nothing where they are not what the command takes.
@@ -49,23 +52,25 @@ pub fn operands<'a>(command: &Command, words: &Words<'a>) -> Option<Operands<'a>
     let takes: Vec<&'static str> = command.takes.split(' ').collect();
     let needed = takes.iter().filter(|kind| **kind != "[OUT]").count();
     let given = &words.operands[1..];
-    let mut operands = Operands { n: 0, inputs: Vec::new(), out: None };
+    let mut operands = Operands::default();
     for (kind, word) in takes.iter().zip(given) {
         match *kind {
             "N" => operands.n = number(word)?,
+            "PERSON" | "STEP" | "ROLE" => operands.entry.push(word),
             "OUT" | "[OUT]" => operands.out = Some(word),
+            "JOURNAL" if command.adds() => operands.added_to = Some(word),
             kind => operands.inputs.push((kind, word)),
         }
     }
-    let read = operands.inputs.iter().map(|(_, name)| *name).chain(words.from);
+    let read = operands.inputs.iter().map(|(_, name)| *name).chain(operands.added_to).chain(words.from);
     let from_standard_input = read.filter(|name| *name == "-").count();
     let fits = (needed..=takes.len()).contains(&given.len()) && from_standard_input <= 1;
     let names_out = operands.out.map_or(!words.options.contains(&"--force"), |name| name != "-");
     (fits && names_out).then_some(operands)
 }
 
-/// A number that is too large for a word is taken as the largest, and so refused by 2.
-fn number(word: &OsStr) -> Option<u64> {
+/// A number that is too large for a word is taken as the largest, and so refused.
+pub fn number(word: &OsStr) -> Option<u64> {
     let word = word.to_str()?;
     let digits = !word.is_empty() && word.bytes().all(|byte| byte.is_ascii_digit());
     digits.then(|| word.parse().unwrap_or(u64::MAX))

@@ -1,9 +1,11 @@
 //! The comparison of two programs must not comfort falsely.
 
-use crate::alike::{call::Call, report::Came, report::Report, side::Side, Jobs};
+use crate::alike::call::{Call, Journal};
+use crate::alike::{report::Came, report::Report, side::Side, Jobs};
 use std::fs;
 use std::os::unix::fs::PermissionsExt;
 use std::path::PathBuf;
+use std::sync::Mutex;
 
 /// A folder of its own for a test.
 struct Folder(PathBuf);
@@ -63,8 +65,16 @@ fn a_list_is_read_or_refused() {
     }
 }
 
+/// A program cannot be started while a child of another thread still has it open, as it was when it was written.
+static STARTING: Mutex<()> = Mutex::new(());
+
 /// What comes of two programs of which each is a line of shell.
 fn came(name: &str, lines: [&str; 2]) -> Came {
+    came_of(Call::new("check any"), name, lines)
+}
+
+fn came_of(call: Call, name: &str, lines: [&str; 2]) -> Came {
+    let _alone = STARTING.lock();
     let folder = Folder::new(name);
     let side = |i: usize, name| {
         let program = folder.put(&format!("program-{name}"), &format!("#!/bin/sh\n{}\n", lines[i]));
@@ -72,7 +82,7 @@ fn came(name: &str, lines: [&str; 2]) -> Came {
         Side::new(name, &program, &folder.0).expect("a folder")
     };
     let mut report = Report::new([side(0, "ulz"), side(1, "second")]);
-    let came = report.ask(Call::new("check any")).expect("they run");
+    let came = report.ask(call).expect("they run");
     assert_eq!(report.status() == 1, came == Came::Different, "{lines:?}");
     came
 }
@@ -100,5 +110,35 @@ fn every_difference_is_seen() {
     .enumerate()
     {
         assert!(came(&format!("different-{i}"), lines) == Came::Different, "{lines:?}");
+    }
+}
+
+/// Both do the same, and yet it shows where a journal is not what it has to be.
+#[test]
+fn a_journal_is_what_was_there_and_the_entry_that_was_taken() {
+    let refused = "echo refused: 14 words; exit 1";
+    let add = "printf abc >> own; echo taken: yes";
+    let journal = |before: Option<&[u8]>| Journal { name: "own".into(), before: before.map(Vec::from), added: *b"abc" };
+    let came = |name: &str, before: Option<&[u8]>, line: &str| {
+        came_of(Call::new("take any").journal(journal(before)), name, [line; 2])
+    };
+    for (i, before) in [None, Some(&b""[..]), Some(b"012")].into_iter().enumerate() {
+        assert!(came(&format!("added-{i}"), before, add) == Came::Answered("taken: yes".into()), "{before:?}");
+        assert!(came(&format!("left-{i}"), before, refused) == Came::Refused(14, None), "{before:?}");
+        for (k, line) in [
+            "echo taken: yes".into(),
+            format!("printf a >> own; {refused}"),
+            format!("printf abc >> own; {refused}"),
+            "printf abd >> own; echo taken: yes".into(),
+            "printf abcabc >> own; echo taken: yes".into(),
+            "printf xabc > own; echo taken: yes".into(),
+            "rm -f own; echo taken: yes".into(),
+            "printf abc >> own; echo ulz: the disk is full >&2; exit 2".into(),
+        ]
+        .into_iter()
+        .enumerate()
+        {
+            assert!(came(&format!("wrong-{i}-{k}"), before, &line) == Came::Different, "{before:?} {line}");
+        }
     }
 }

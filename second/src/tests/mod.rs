@@ -1,6 +1,7 @@
 //! What both bodies must do: the samples S1 to S13, the slips that were made before, and the same answers as each other.
 
 mod alike;
+mod asking;
 mod findings;
 mod journals;
 mod laps;
@@ -11,7 +12,7 @@ mod sheets;
 mod sizes;
 mod tracker;
 
-use crate::data::{Ending, Entry, Graph, Kept, Lapped, Marking, Moved, Ran, Track, Tracked};
+use crate::data::{Asked, Ending, Entry, Graph, Kept, Lapped, Marking, Moved, Ran, Track, Tracked};
 use crate::{model, peer};
 use std::collections::BTreeSet;
 
@@ -54,8 +55,14 @@ impl Both {
         alike(model::check(&self.plain), peer::check(&self.graph))
     }
 
+    fn ask(&self, m: Marking, e: Entry) -> Asked {
+        alike(model::ask(&self.plain, m, e), peer::ask(&self.graph, m, e))
+    }
+
+    /// Is refused as the question is, and is kept as it is moved.
     fn take(&self, m: Marking, e: Entry) -> Moved {
         let moved = alike(model::take(&self.plain, m, e), peer::take(&self.graph, m, e));
+        assert_eq!(self.ask(m, e), Asked { number: moved.number, waiting: moved.waiting }, "asked as moved");
         let (mut by_model, mut by_peer) = (m, m);
         let kept = alike(model::keep(&self.plain, &mut by_model, e), peer::keep(&self.graph, &mut by_peer, e));
         assert_eq!(kept, Kept { number: moved.number, waiting: moved.waiting }, "kept as moved");

@@ -8,17 +8,17 @@ use std::ffi::OsString;
 use std::fs;
 use std::path::PathBuf;
 
-struct Heard {
-    out: String,
-    err: String,
-    status: u8,
+pub struct Heard {
+    pub out: String,
+    pub err: String,
+    pub status: u8,
 }
 
 /// A folder of its own for a test, with the sample job in it.
-struct Folder(PathBuf);
+pub struct Folder(pub PathBuf);
 
 impl Folder {
-    fn new(name: &str) -> Self {
+    pub fn new(name: &str) -> Self {
         let folder = std::env::temp_dir().join(format!("second-{}-{name}", std::process::id()));
         fs::create_dir_all(&folder).expect("a folder");
         let folder = Folder(folder);
@@ -29,12 +29,12 @@ impl Folder {
         folder
     }
 
-    fn put(&self, name: &str, bytes: &[u8]) {
+    pub fn put(&self, name: &str, bytes: &[u8]) {
         fs::write(self.0.join(name), bytes).expect("a file");
     }
 
     /// The command, numbers and words with a dash stand for themselves; the others are files here.
-    fn call(&self, words: &str) -> Heard {
+    pub fn call(&self, words: &str) -> Heard {
         let word = |(i, word): (usize, &str)| {
             let plain = i == 0 || word.starts_with('-') || word.starts_with(|first: char| first.is_ascii_digit());
             if plain {
@@ -49,7 +49,7 @@ impl Folder {
         Heard { out, err, status }
     }
 
-    fn told(&self, words: &str, status: u8, lines: &[&str]) {
+    pub fn told(&self, words: &str, status: u8, lines: &[&str]) {
         let told = self.call(words);
         let out = told.out.replace(&format!("{}/", self.0.display()), "");
         assert_eq!((told.status, out.lines().collect::<Vec<_>>()), (status, lines.to_vec()), "{words}");

@@ -1,6 +1,6 @@
 use super::{answers, crowd, Both};
 use crate::cases::{self, Case, Dice};
-use crate::data::{Entry, Graph, Marking, Moved};
+use crate::data::{Asked, Entry, Graph, Marking, Moved};
 use crate::model::members;
 use crate::sample::{self, CHECK, CHECKED, PUBLISH, REBOOT, REBOOTED, START};
 use std::collections::BTreeSet;
@@ -32,6 +32,22 @@ fn samples_1_to_7() {
     assert_eq!(job.take(START, entry(1, 1, 1)), refused(13, START), "S5");
     assert_eq!(job.take(START, entry(1, 1, 0)), refused(12, START), "S6");
     assert_eq!(job.take(START, entry(2, 0, 0)), refused(11, START), "S7");
+}
+
+/// What is asked is the marking before: the answer to a step that was just taken is that of the marking after.
+#[test]
+fn asking_takes_nothing() {
+    let job = Both::new(sample::graph());
+    let allowed = Asked::default();
+    assert_eq!([job.ask(START, REBOOT), job.ask(START, REBOOT), job.ask(START, CHECK)], [allowed; 3]);
+    let refused = |number, waiting| Asked { number, waiting };
+    assert_eq!((job.ask(START, PUBLISH), job.ask(REBOOTED, PUBLISH)), (refused(15, 0b010), refused(14, 0)));
+    assert_eq!(job.ask(CHECKED, PUBLISH), allowed);
+    // It lets itself in, and what it waits for out: after the move it would be allowed, and before it is not.
+    let (mut g, mut shut) = (lone(), lone());
+    (g.conditions[0], g.excludes[0], shut.includes[0]) = (1, 1, 1);
+    assert_eq!(Both::new(g).ask(Marking::new(0, 0, 1), LONE), refused(15, 1));
+    assert_eq!(Both::new(shut).ask(Marking::default(), LONE), refused(14, 0));
 }
 
 #[test]
@@ -115,11 +131,13 @@ fn the_bodies_agree_and_every_number_comes_up() {
         came.insert(("check", job.check()));
         let moved = job.take(marking, entry);
         came.extend([("take", moved.number), ("waits", crowd(moved.waiting))]);
+        came.insert(("ask", job.ask(marking, entry).number));
         came.insert(("finished", job.finished(marking).number));
         came.insert(("finished?", job.finished(marking).finished));
     }
     let mut all = answers("check", &[0, 2, 4, 6]);
     all.append(&mut answers("take", &[0, 2, 4, 6, 8, 11, 12, 13, 14, 15]));
+    all.append(&mut answers("ask", &[0, 2, 4, 6, 8, 11, 12, 13, 14, 15]));
     all.append(&mut answers("waits", &[0, 1, 2, 63]));
     all.append(&mut answers("finished", &[0, 2, 4, 6, 8]));
     all.append(&mut answers("finished?", &[0, 1]));

@@ -6,7 +6,7 @@ use second::peer;
 
 /// Each call starts from the case's marking, since a move alters it where it lies.
 pub fn run() {
-    for (name, cases) in lines("keep") {
+    for (name, cases) in lines("keep", "moved") {
         race(&name, &cases, Marking::default(), ours, |case, marking| {
             *marking = case.marking;
             peer::keep(&case.graph, marking, case.entry)

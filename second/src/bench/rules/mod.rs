@@ -1,3 +1,4 @@
+mod ask;
 mod check;
 mod finished;
 mod keep;
@@ -5,6 +6,7 @@ mod take;
 
 pub fn run() {
     check::run();
+    ask::run();
     take::run();
     finished::run();
     keep::run();

@@ -1,13 +1,13 @@
-use super::{take, Input};
+use super::{take::ANSWERS, Input};
 use crate::border;
-use crate::floor::Call;
+use crate::floor::{Call, Table};
 use crate::lent;
 use crate::seen::Seen;
 use crate::words::by_crowd;
 use second::cases::Case;
 use second::{model, peer};
 
-pub const CALL: Call<Input> = Call { table: take::table("keep"), run };
+pub const CALL: Call<Input> = Call { table: Table { name: "keep", answers: ANSWERS }, run };
 
 fn run(input: &Input) -> Seen {
     let &Case { ref graph, marking, entry } = &input.case;

@@ -1,5 +1,6 @@
-//! Graphs, markings, taking a step.
+//! Graphs, markings, asking for a step and taking it.
 
+mod ask;
 mod check;
 mod finished;
 mod keep;
@@ -16,5 +17,5 @@ pub const FLOOR: Floor<Input> = Floor {
     make: |dice| Input::new(cases::make(dice), |case| &case.graph),
     full: None,
     size: |input| input.size,
-    calls: &[check::CALL, take::CALL, finished::CALL, keep::CALL],
+    calls: &[check::CALL, ask::CALL, take::CALL, finished::CALL, keep::CALL],
 };

@@ -2,15 +2,14 @@ use super::Input;
 use crate::border;
 use crate::floor::{Call, Table};
 use crate::seen::Seen;
-use crate::words::{by_crowd, ENTRY, GRAPH, OUTSIDE};
+use crate::words::{by_crowd, Kind, ENTRY, GRAPH, OUTSIDE};
 use second::cases::Case;
 use second::{model, peer};
 
-pub const CALL: Call<Input> = Call { table: table("take"), run };
+pub const CALL: Call<Input> = Call { table: Table { name: "take", answers: ANSWERS }, run };
 
-pub const fn table(name: &'static str) -> Table {
-    Table { name, answers: &[&[(0, "moved")], GRAPH, &[OUTSIDE], ENTRY] }
-}
+/// Of the calls that take a step, which refuse what the question refuses.
+pub const ANSWERS: &[&[Kind]] = &[&[(0, "moved")], GRAPH, &[OUTSIDE], ENTRY];
 
 fn run(input: &Input) -> Seen {
     let &Case { ref graph, marking, entry } = &input.case;

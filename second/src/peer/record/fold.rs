@@ -1,11 +1,10 @@
 use super::{bytes::put, tidy, IDENTITY, NEVER};
 use crate::data::{Entry, Graph, Record};
 use crate::peer::{
+    ask::known,
     check::well_formed,
     journal::{entries, entry},
-    number,
-    take::known,
-    Refusal,
+    number, Refusal,
 };
 
 /// Writes the journal's record.
