@@ -2,11 +2,11 @@
 use check::same;
 use libc::PATH_MAX;
 
-// The places of the first five operands, the command before its own, and the number of operands, where six stands for more; which
+// The places of the first six operands, the command before its own, and the number of operands, where seven stands for more; which
 // options were given; the place of the value of --from, or 0; is `-` among what names a file, once or more often. Then what is wrong:
 // the place of the first option that is none, of an option whose value is missing, and of the first argument that is too long, or 0.
 pub struct Call {
-    pub at: [usize; 5],
+    pub at: [usize; 6],
     pub count: usize,
     pub force: bool,
     pub never: bool,
@@ -57,10 +57,10 @@ fn with_dash(mut c: Call, dash: bool) -> Call {
 
 fn with_operand(mut c: Call, i: usize) -> Call {
     let n = c.count;
-    if n < 5 {
+    if n < 6 {
         c.at[n] = i;
     }
-    if n < 6 {
+    if n < 7 {
         c.count = n + 1;
     }
     c
@@ -166,7 +166,7 @@ fn with_word(mut c: Call, i: usize) -> Call {
 
 pub fn called() -> Call {
     let mut c = Call {
-        at: [0; 5],
+        at: [0; 6],
         count: 0,
         force: false,
         never: false,

@@ -1,5 +1,6 @@
 // What the system knows of a file.
 ghost use Rattle.libc.specs.Io.{Ended};
+use crate::reasons::last_error;
 use check::same;
 use libc::PATH_MAX;
 use libc::types::stat;
@@ -7,13 +8,14 @@ use libc::types::timespec;
 
 const LAST: usize = PATH_MAX - 1;
 
-// Where the file lies, its mode and its length; or there is none.
+// Where the file lies, its mode and its length; or it was not found, because of the error.
 pub struct Known {
     pub dev: u64,
     pub ino: u64,
     pub mode: u32,
     pub size: i64,
     pub found: bool,
+    pub error: i32,
 }
 
 fn no_time() -> timespec {
@@ -72,12 +74,14 @@ fn ended(name: &[u8]) -> [u8; PATH_MAX]
 pub fn known_of(name: &[u8]) -> Known {
     let path = ended(name);
     let s = told(&path, nothing());
+    let error = last_error();
     Known {
         dev: s.st_dev,
         ino: s.st_ino,
         mode: s.st_mode,
         size: s.st_size,
         found: (s.st_mode != 0) & (name.len() <= LAST),
+        error: error,
     }
 }
 

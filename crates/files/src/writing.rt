@@ -16,9 +16,9 @@ pub struct Target {
 }
 
 // Was the name taken, and was it free? Else the number of the error.
-struct Claim {
-    error: i32,
-    ours: bool,
+pub struct Claim {
+    pub error: i32,
+    pub ours: bool,
 }
 
 // The bytes reach the device before the name does.
@@ -33,7 +33,7 @@ fn filled(fd: i32, bytes: &[u8]) -> i32 {
 }
 
 // Among those who make a file of that name, one makes it. By force a file that is there may stay until it is replaced.
-fn claimed(name: &[u8], force: bool) -> Claim {
+pub fn claimed(name: &[u8], force: bool) -> Claim {
     let fd = os::create(name);
     if 0 <= fd {
         libc::close(fd);
@@ -75,7 +75,7 @@ fn placed(fd: i32, temporary: &[u8], name: &[u8]) -> i32 {
 }
 
 // Another may have put a file there by force.
-fn unclaim(name: &[u8]) {
+pub fn unclaim(name: &[u8]) {
     let k = known_of(name);
     if k.size == 0 {
         os::unlink(name);
@@ -123,7 +123,7 @@ fn sync_folder(folder: &[u8]) {
 }
 
 // The new name reaches the device too, where the folder may be opened; the file is there in any case.
-fn sync_name(name: &[u8]) {
+pub fn sync_name(name: &[u8]) {
     let n = folder_length(name);
     if n == 0 {
         sync_folder(b".");

@@ -1,8 +1,8 @@
 // Help: all commands, or one.
-use crate::commands::Command;
 use crate::texts::say_more;
 use crate::texts::say_phrase;
 use crate::usage::say_use;
+use commands::Command;
 use lines::say::say;
 use output::page::Page;
 
@@ -17,6 +17,8 @@ fn say_commands(page: &mut Page) {
     say_command(page, Command::Show);
     say_command(page, Command::Write);
     say_command(page, Command::May);
+    say_command(page, Command::Ask);
+    say_command(page, Command::Take);
     say_command(page, Command::Run);
     say_command(page, Command::Finished);
     say_command(page, Command::Fold);

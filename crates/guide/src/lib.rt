@@ -1,6 +1,4 @@
-// The commands, what each takes, and help.
-pub mod commands;
+// Help: how each command is called, and what it answers.
 pub mod help;
-pub mod nearest;
 pub mod texts;
 pub mod usage;

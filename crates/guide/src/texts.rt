@@ -1,5 +1,5 @@
 // What each command answers, in a phrase and in a few lines.
-use crate::commands::Command;
+use commands::Command;
 use lines::say::say;
 use output::page::Page;
 
@@ -9,6 +9,14 @@ pub fn say_phrase(page: &mut Page, c: Command) {
         Command::Show => say(page, b"what the sheet holds, in words\n"),
         Command::Write => say(page, b"writes the sheet of what was read\n"),
         Command::May => say(page, b"who may take which step after the journal\n"),
+        Command::Ask => say(
+            page,
+            b"may the person take the step in the role after the journal?\n",
+        ),
+        Command::Take => say(
+            page,
+            b"the same, and an entry that is allowed is put behind the journal\n",
+        ),
         Command::Run => say(
             page,
             b"where the journal ends, or its first entry that is not allowed\n",
@@ -67,6 +75,29 @@ fn say_may_page(page: &mut Page) {
           A step that nobody may take is 'blocked', with the reason: not included, what it waits for, or nobody holds its roles.\n\
           It starts at the sheet's first marking, or with --from at that of a file of 24 bytes.\n\
           Refusals: 1 to 6, 7, 8, then 11 to 15 of the first entry not allowed.\n",
+    );
+}
+
+fn say_ask_page(page: &mut Page) {
+    say(
+        page,
+        b"Prints 'allowed: yes' and the entry, with its place behind those of the journal. Nothing is written.\n\
+          A refused entry is printed with what it waits for, if it does, and the marking before it.\n\
+          PERSON, STEP and ROLE are numbers from 0; one that is too large for an entry is refused with 11 as it is.\n\
+          It starts at the sheet's first marking, or with --from at that of a file of 24 bytes.\n\
+          Refusals: 1 to 6, 7 (a full journal too), 8, then 11 to 15 of the first entry not allowed, the one asked for last.\n",
+    );
+}
+
+fn say_take_page(page: &mut Page) {
+    say(
+        page,
+        b"Prints 'taken: yes', the entry, the marking after it and whether the job is then finished. The entry's three bytes stand behind\n\
+          the journal and on the device before that is printed. What is refused is what 'ask' refuses, and leaves the journal as it was.\n\
+          A journal that is not there is an empty one, and is made for its first entry. It is an ordinary file and no other input.\n\
+          Two takes of one journal go one after the other: the journal is locked, and its folder with it, until the program ends.\n\
+          PERSON, STEP, ROLE and --from are those of 'ask'.\n\
+          Refusals: 1 to 6, 7 (a full journal too), 8, then 11 to 15 of the first entry not allowed, the one to take last.\n",
     );
 }
 
@@ -190,6 +221,8 @@ pub fn say_more(page: &mut Page, c: Command) {
         Command::Show => say_show_page(page),
         Command::Write => say_write_page(page),
         Command::May => say_may_page(page),
+        Command::Ask => say_ask_page(page),
+        Command::Take => say_take_page(page),
         Command::Run => say_run_page(page),
         Command::Finished => say_finished_page(page),
         Command::Fold => say_fold_page(page),

@@ -1,5 +1,5 @@
 // How each command is called.
-use crate::commands::Command;
+use commands::Command;
 use lines::say::say;
 use output::page::Page;
 
@@ -9,6 +9,8 @@ pub fn say_command_word(page: &mut Page, c: Command) {
         Command::Show => say(page, b"show"),
         Command::Write => say(page, b"write"),
         Command::May => say(page, b"may"),
+        Command::Ask => say(page, b"ask"),
+        Command::Take => say(page, b"take"),
         Command::Run => say(page, b"run"),
         Command::Finished => say(page, b"finished"),
         Command::Fold => say(page, b"fold"),
@@ -32,6 +34,8 @@ fn say_operands(page: &mut Page, c: Command) {
         Command::Show => say(page, b" SHEET"),
         Command::Write => say(page, b" SHEET OUT"),
         Command::May => say(page, b" SHEET JOURNAL [--from MARKING]"),
+        Command::Ask => say(page, b" SHEET JOURNAL PERSON STEP ROLE [--from MARKING]"),
+        Command::Take => say(page, b" SHEET JOURNAL PERSON STEP ROLE [--from MARKING]"),
         Command::Run => say(page, b" SHEET JOURNAL [OUT] [--from MARKING]"),
         Command::Finished => say(page, b" SHEET JOURNAL [--status]"),
         Command::Fold => say(page, b" SHEET JOURNAL OUT [--never]"),

@@ -32,16 +32,36 @@ pub fn say_ending(page: &mut Page, e: Ending, m: Marking) -> Answer {
     }
 }
 
-// Entry k of a journal, with no end of line.
-pub fn say_entry(page: &mut Page, k: u64, e: Entry) {
+// An entry as somebody states it: a number may be too large for any entry.
+pub struct Stated {
+    pub person: u64,
+    pub step: u64,
+    pub role: u64,
+}
+
+pub fn as_stated(e: Entry) -> Stated {
+    Stated {
+        person: e.person as u64,
+        step: e.step.0 as u64,
+        role: e.role as u64,
+    }
+}
+
+// As entry k of a journal, with no end of line.
+pub fn say_stated(page: &mut Page, k: u64, s: Stated) {
     say(page, b"entry ");
     say_number(page, k);
     say(page, b": person ");
-    say_number(page, e.person as u64);
+    say_number(page, s.person);
     say(page, b", step ");
-    say_number(page, e.step.0 as u64);
+    say_number(page, s.step);
     say(page, b", role ");
-    say_number(page, e.role as u64);
+    say_number(page, s.role);
+}
+
+// Entry k of a journal, with no end of line.
+pub fn say_entry(page: &mut Page, k: u64, e: Entry) {
+    say_stated(page, k, as_stated(e));
 }
 
 pub fn say_record(page: &mut Page, r: Record) {

@@ -1,11 +1,12 @@
 // What each command answers.
-use crate::wrong::complain_at;
-use crate::wrong::complain_unknown;
+use calling::wrong::complain_at;
+use calling::wrong::complain_unknown;
+use commands::Command;
+use commands::named;
 use files::writing::Target;
-use guide::commands::Command;
-use guide::commands::named;
 use lines::places::Places;
 use lines::refusals::say_refused;
+use lines::states::Stated;
 use lines::states::say_marking;
 use moves::Marking;
 use moves::Verdict;
@@ -14,10 +15,12 @@ use output::status::Answer;
 use rules::Job;
 use rules::WORDS;
 
-// What to answer: the command with its N, the arguments that name its files and the marking to start at, and the file to write.
+// What to answer: the command with its N or its entry, the arguments that name its files and the marking to start at, and the file to
+// write. A journal that is added to is both, and none that is read where it is not there yet.
 pub struct Task {
     pub command: Command,
     pub number: u64,
+    pub entry: Stated,
     pub first: usize,
     pub second: usize,
     pub third: usize,
@@ -121,12 +124,15 @@ fn help(page: &mut Page, o: Target) -> Answer {
 fn give_of(page: &mut Page, g: &Job, m: Marking, t: Task, b: &[u8], c: &[u8]) -> Answer {
     let o = t.target;
     let p = places_of(t);
+    let e = t.entry;
     let command = t.command;
     match command {
         Command::Check => showing::sheets::check(page, g),
         Command::Show => showing::sheets::show(page, g, m),
         Command::Write => showing::sheets::write(page, g, m, o, t.first),
-        Command::May => running::choices::may(page, p, g, m, b),
+        Command::May => asking::choices::may(page, p, g, m, b),
+        Command::Ask => asking::entries::ask(page, p, g, m, b, e),
+        Command::Take => asking::entries::take(page, p, g, m, b, e, o.at),
         Command::Run => running::runs::run(page, p, g, m, b, o),
         Command::Finished => running::runs::finished(page, p, g, m, b),
         Command::Fold => recording::folds::fold(page, p, g, b, o, t.never),

@@ -1,21 +1,28 @@
 // What the arguments ask for is done: the files that they name are read, the floors below are asked, and their answers printed.
 use crate::answers::Task;
 use crate::answers::give;
-use crate::wrong::complain_none;
-use crate::wrong::complain_unknown;
-use crate::wrong::is_wrong;
-use crate::wrong::is_wrong_word;
-use crate::wrong::place;
-use crate::wrong::writes_over;
+use calling::numbers::Stating;
+use calling::numbers::number_at;
+use calling::numbers::stated_in;
+use calling::wrong::complain_at;
+use calling::wrong::complain_none;
+use calling::wrong::complain_unknown;
+use calling::wrong::is_wrong;
+use calling::wrong::is_wrong_word;
+use calling::wrong::out_of;
+use calling::wrong::place;
+use commands::Command;
+use commands::Shape;
+use commands::named;
+use commands::shape_of;
+use files::appending::Place;
+use files::appending::looked_up;
 use files::arguments::Call;
 use files::arguments::Number;
-use files::complaints::complain_of;
 use files::reading::fetch;
 use files::writing::Target;
-use guide::commands::Command;
-use guide::commands::Shape;
-use guide::commands::named;
-use guide::commands::shape_of;
+use files::writing::same_file;
+use lines::states::Stated;
 use output::page::Page;
 use output::status::Answer;
 
@@ -55,17 +62,26 @@ fn input(s: Shape, call: Call, k: usize) -> usize {
     place(call, k)
 }
 
+fn no_entry() -> Stated {
+    Stated {
+        person: 0,
+        step: 0,
+        role: 0,
+    }
+}
+
 fn task_of(command: Command, s: Shape, call: Call) -> Task {
     Task {
         command: command,
         number: 0,
+        entry: no_entry(),
         first: input(s, call, 0),
         second: input(s, call, 1),
         third: input(s, call, 2),
         from: call.from,
         never: call.never,
         target: Target {
-            at: place(call, s.out),
+            at: out_of(s, call),
             force: call.force,
         },
     }
@@ -74,10 +90,12 @@ fn task_of(command: Command, s: Shape, call: Call) -> Task {
 // The inputs stand behind N.
 fn numbered(t: Task, number: u64) -> Task {
     let o = t.target;
+    let e = t.entry;
     let command = t.command;
     Task {
         command: command,
         number: number,
+        entry: e,
         first: t.second,
         second: t.third,
         third: 0,
@@ -87,15 +105,30 @@ fn numbered(t: Task, number: u64) -> Task {
     }
 }
 
-// The call's N; where it is no number, that was complained of.
-fn number_in(call: Call) -> Number {
-    let mut word = io::buffer();
-    let n = os::arg(place(call, 0), &mut word);
-    let o = files::arguments::number_of(&word[..n]);
-    if let Number::None = o {
-        complain_of(&word[..n], b"N is a number, digits 0 to 9 alone");
+fn is_input(t: Task) -> bool {
+    let out = t.target.at;
+    if same_file(out, t.first) {
+        return true;
     }
-    o
+    if same_file(out, t.second) {
+        return true;
+    }
+    if same_file(out, t.third) {
+        return true;
+    }
+    same_file(out, t.from)
+}
+
+// Would the call write over a file that it reads? Then it was complained of.
+fn writes_over(t: Task) -> bool {
+    if !is_input(t) {
+        return false;
+    }
+    complain_at(
+        t.target.at,
+        b"is read by this call, and is not written over",
+    );
+    true
 }
 
 fn obey_task(page: &mut Page, t: Task) -> Answer {
@@ -105,16 +138,59 @@ fn obey_task(page: &mut Page, t: Task) -> Answer {
     read_and_give(page, t)
 }
 
+// A journal that is added to is written: it may be no other input, and is read where it is there.
+fn obey_taking(page: &mut Page, mut t: Task) -> Answer {
+    let journal = t.second;
+    t.second = 0;
+    let o = Target {
+        at: journal,
+        force: false,
+    };
+    t.target = o;
+    if writes_over(t) {
+        return Answer::Failed;
+    }
+    let there = looked_up(journal);
+    match there {
+        Place::File => {
+            t.second = journal;
+            read_and_give(page, t)
+        }
+        Place::Free => read_and_give(page, t),
+        Place::Other => Answer::Failed,
+    }
+}
+
+fn obey_stated(page: &mut Page, mut t: Task, e: Stated) -> Answer {
+    t.entry = e;
+    let command = t.command;
+    if let Command::Take = command {
+        return obey_taking(page, t);
+    }
+    obey_task(page, t)
+}
+
+fn obey_entry(page: &mut Page, t: Task, call: Call) -> Answer {
+    let o = stated_in(call);
+    match o {
+        Stating::Is(e) => obey_stated(page, t, e),
+        Stating::None => Answer::Failed,
+    }
+}
+
 fn obey(page: &mut Page, c: Command, call: Call) -> Answer {
     let s = shape_of(c);
     if is_wrong(c, s, call) {
         return Answer::Failed;
     }
     let t = task_of(c, s, call);
+    if s.entry {
+        return obey_entry(page, t, call);
+    }
     if !s.numbered {
         return obey_task(page, t);
     }
-    let n = number_in(call);
+    let n = number_at(call, 0, b"N is a number, digits 0 to 9 alone");
     match n {
         Number::Is(number) => obey_task(page, numbered(t, number)),
         Number::None => Answer::Failed,

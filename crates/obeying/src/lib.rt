@@ -1,4 +1,3 @@
 // The program between its arguments and its answers.
 mod answers;
 pub mod calls;
-mod wrong;

@@ -1,5 +1,4 @@
-// Journals listed, and run from a marking: how they end, who may go on, laps without end, and the tracker.
-pub mod choices;
+// Journals listed, and run from a marking: how they end, laps without end, and the tracker.
 pub mod laps_told;
 pub mod listing;
 pub mod markings;

@@ -1,13 +1,11 @@
 // Wrong use, each with its one line.
-use crate::answers::Task;
 use check::same;
+use commands::Command;
+use commands::Shape;
+use commands::nearest::nearest;
 use files::arguments::Call;
 use files::complaints::complain;
 use files::complaints::complain_of;
-use files::writing::same_file;
-use guide::commands::Command;
-use guide::commands::Shape;
-use guide::nearest::nearest;
 use guide::usage::say_command_word;
 use guide::usage::say_use;
 use lines::names::say_name;
@@ -16,7 +14,7 @@ use output::page::complain_with;
 
 // The place of operand k behind the command, or 0.
 pub fn place(c: Call, k: usize) -> usize {
-    if 3 < k {
+    if 4 < k {
         return 0;
     }
     if c.count <= k + 1 {
@@ -24,6 +22,14 @@ pub fn place(c: Call, k: usize) -> usize {
     }
     let at = c.at;
     at[k + 1]
+}
+
+// The place of the file to write, or 0.
+pub fn out_of(s: Shape, c: Call) -> usize {
+    if s.entry {
+        return 0;
+    }
+    place(c, s.out)
 }
 
 // How many stand behind the command.
@@ -95,7 +101,7 @@ fn writes(c: Command, s: Shape) -> bool {
     if let Command::Help = c {
         return false;
     }
-    s.out < s.most
+    !s.entry & (s.out < s.most)
 }
 
 fn has_untaken(c: Command, s: Shape, call: Call) -> bool {
@@ -150,6 +156,18 @@ pub fn is_wrong_word(call: Call) -> bool {
     false
 }
 
+// Is an entry to be put behind standard input? Then it was complained of.
+fn takes_from_nowhere(c: Command, call: Call) -> bool {
+    let Command::Take = c else {
+        return false;
+    };
+    if is_dash(place(call, 1)) {
+        complain_of(b"-", b"the journal is a file, and has to be named");
+        return true;
+    }
+    false
+}
+
 // Is the call no use of the command? Then it was complained of.
 pub fn is_wrong(c: Command, s: Shape, call: Call) -> bool {
     if has_untaken(c, s, call) {
@@ -167,35 +185,9 @@ pub fn is_wrong(c: Command, s: Shape, call: Call) -> bool {
         complain(b"ulz: --force: this call writes no file\n");
         return true;
     }
-    if is_dash(place(call, s.out)) {
+    if is_dash(out_of(s, call)) {
         complain_of(b"-", b"the output is a file, and has to be named");
         return true;
     }
-    false
-}
-
-fn is_input(t: Task) -> bool {
-    let out = t.target.at;
-    if same_file(out, t.first) {
-        return true;
-    }
-    if same_file(out, t.second) {
-        return true;
-    }
-    if same_file(out, t.third) {
-        return true;
-    }
-    same_file(out, t.from)
-}
-
-// Would the call write over a file that it reads? Then it was complained of.
-pub fn writes_over(t: Task) -> bool {
-    if !is_input(t) {
-        return false;
-    }
-    complain_at(
-        t.target.at,
-        b"is read by this call, and is not written over",
-    );
-    true
+    takes_from_nowhere(c, call)
 }

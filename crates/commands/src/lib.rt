@@ -1,11 +1,15 @@
-// The commands, and what each takes.
+// The commands, what each takes, and which one a word means.
 use crate::nearest::searched;
+
+pub mod nearest;
 
 pub enum Command {
     Check,
     Show,
     Write,
     May,
+    Ask,
+    Take,
     Run,
     Finished,
     Fold,
@@ -22,13 +26,14 @@ pub enum Command {
     Unknown,
 }
 
-// The operands of a command: is the first one N, how many stand before the file to write, and how few and how many there may be.
-// Then the options that not every command takes.
+// The operands of a command: is the first one N, how many stand before the file to write, and how few and how many there may be; do the
+// numbers of an entry stand there instead, and no file to write? Then the options that not every command takes.
 pub struct Shape {
     pub numbered: bool,
     pub out: usize,
     pub least: usize,
     pub most: usize,
+    pub entry: bool,
     pub from: bool,
     pub status: bool,
     pub never: bool,
@@ -49,6 +54,7 @@ fn shaped(numbered: bool, out: usize, least: usize, most: usize) -> Shape {
         out: out,
         least: least,
         most: most,
+        entry: false,
         from: false,
         status: false,
         never: false,
@@ -67,6 +73,12 @@ fn asking(mut s: Shape) -> Shape {
     s
 }
 
+// Behind the files, who takes which step in which role.
+fn stating(mut s: Shape) -> Shape {
+    s.entry = true;
+    s
+}
+
 fn folding(mut s: Shape) -> Shape {
     s.never = true;
     s
@@ -78,6 +90,8 @@ pub fn shape_of(c: Command) -> Shape {
         Command::Show => shaped(false, 1, 1, 1),
         Command::Write => shaped(false, 1, 2, 2),
         Command::May => starting(shaped(false, 2, 2, 2)),
+        Command::Ask => starting(stating(shaped(false, 2, 5, 5))),
+        Command::Take => starting(stating(shaped(false, 2, 5, 5))),
         Command::Run => starting(shaped(false, 2, 2, 3)),
         Command::Finished => asking(shaped(false, 2, 2, 2)),
         Command::Fold => folding(shaped(false, 2, 3, 3)),

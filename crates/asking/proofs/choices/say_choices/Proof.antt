@@ -1,8 +1,8 @@
 -- `choices::say_choices` ends: the steps left fall. Assumes nothing.
 use Prim.Native.Nat.{_≤_, _-_}
 use borrow.Author.Needs.{needs}
-use Rattle.running.proofs.choices.say_choices.Statement.{statement}
-use Rattle.running.proofs.choices.say_choices.Tie as tie
+use Rattle.asking.proofs.choices.say_choices.Statement.{statement}
+use Rattle.asking.proofs.choices.say_choices.Tie as tie
 
 abbrev Inv-loop : tie.InvT-loop
 Inv-loop page₀ g m s₀ page s = s ≤ 64

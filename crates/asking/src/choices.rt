@@ -1,5 +1,4 @@
-// Who may take which step now, and what keeps the others back.
-use crate::runs::say_halted;
+// Who may take which step now, and what keeps the others back: what is asked of every person and role.
 use journal::Ran;
 use lines::places::Places;
 use lines::say::say;
@@ -8,14 +7,15 @@ use lines::say::say_number;
 use lines::say::say_set;
 use lines::states::say_ending;
 use lines::states::say_marking;
+use moves::Asked;
 use moves::Entry;
 use moves::Marking;
-use moves::Move;
 use moves::Step;
+use moves::Told;
 use output::page::Page;
 use output::status::Answer;
-use rules::CONDITIONS;
 use rules::Job;
+use running::runs::say_halted;
 
 // The step stands first: the lines go step by step.
 fn say_may(page: &mut Page, e: Entry) {
@@ -28,20 +28,44 @@ fn say_may(page: &mut Page, e: Entry) {
     say(page, b"\n");
 }
 
-// May the person take the step in the role? Then it is said.
-fn may_take(page: &mut Page, g: &Job, m: Marking, e: Entry) -> bool {
-    let o = rules::take(g, m, e);
-    match o {
-        Move::Moved(_) => {
-            say_may(page, e);
-            true
-        }
-        Move::Refused(_, _) => false,
+// What those who were asked about are told of a step: may one of them take it, and the refusal with the highest number.
+struct Heard {
+    may: bool,
+    told: Told,
+}
+
+fn nothing() -> Heard {
+    Heard {
+        may: false,
+        told: Told {
+            number: 0,
+            waiting: 0,
+        },
     }
 }
 
-fn some_role(page: &mut Page, g: &Job, m: Marking, s: u8, p: u8) -> bool {
-    let mut found = false;
+fn with_refusal(mut h: Heard, t: Told) -> Heard {
+    if h.told.number < t.number {
+        h.told = t;
+    }
+    h
+}
+
+// May the person take the step in the role? Then it is said.
+fn asked(page: &mut Page, g: &Job, m: Marking, mut h: Heard, e: Entry) -> Heard {
+    let o = rules::ask(g, m, e);
+    match o {
+        Asked::Allowed => {
+            say_may(page, e);
+            h.may = true;
+            h
+        }
+        Asked::Refused(r) => with_refusal(h, moves::tell(r)),
+    }
+}
+
+fn in_each_role(page: &mut Page, g: &Job, m: Marking, before: Heard, s: u8, p: u8) -> Heard {
+    let mut h = before;
     let mut r = 0;
     while r < 16 {
         let e = Entry {
@@ -49,49 +73,45 @@ fn some_role(page: &mut Page, g: &Job, m: Marking, s: u8, p: u8) -> bool {
             step: Step(s),
             role: r,
         };
-        found = found | may_take(page, g, m, e);
+        h = asked(page, g, m, h, e);
         r += 1;
     }
-    found
+    h
 }
 
-fn some_person(page: &mut Page, g: &Job, m: Marking, s: u8) -> bool {
-    let mut found = false;
+fn by_each_person(page: &mut Page, g: &Job, m: Marking, s: u8) -> Heard {
+    let mut h = nothing();
     let mut p = 0;
     while p < 16 {
-        found = found | some_role(page, g, m, s, p);
+        h = in_each_role(page, g, m, h, s, p);
         p += 1;
     }
-    found
+    h
 }
 
-fn say_blocked(page: &mut Page, s: u8) {
-    say(page, b"blocked: step ");
-    say_number(page, s as u64);
+// Whoever comes furthest is kept back by what the step waits for, or by its exclusion; else nobody comes as far.
+fn say_back(page: &mut Page, t: Told) {
+    let number = t.number;
+    match number {
+        15 => {
+            say(page, b", waits for ");
+            say_set(page, t.waiting);
+            say(page, b"\n");
+        }
+        14 => say(page, b", not included\n"),
+        _ => say(page, b", nobody holds a role that it has\n"),
+    }
 }
 
 fn say_choice(page: &mut Page, g: &Job, m: Marking, s: u8) {
-    if 63 < s {
+    let h = by_each_person(page, g, m, s);
+    if h.may {
         return;
     }
-    if !sets::has(m.included, s) {
-        say_blocked(page, s);
-        say(page, b", not included\n");
-        return;
-    }
-    let i = s as usize;
-    let waited = moves::inner::waits(g[CONDITIONS + i], m);
-    if waited != 0 {
-        say_blocked(page, s);
-        say(page, b", waits for ");
-        say_set(page, waited);
-        say(page, b"\n");
-        return;
-    }
-    if !some_person(page, g, m, s) {
-        say_blocked(page, s);
-        say(page, b", nobody holds a role that it has\n");
-    }
+    say(page, b"blocked: step ");
+    say_number(page, s as u64);
+    let t = h.told;
+    say_back(page, t);
 }
 
 fn say_choices(page: &mut Page, g: &Job, m: Marking) {

@@ -1,0 +1,3 @@
+// Who may go on after a journal, and one who does: whatever is answered here, the rules were asked.
+pub mod choices;
+pub mod entries;
