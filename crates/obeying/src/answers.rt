@@ -2,7 +2,7 @@
 use calling::wrong::complain_at;
 use calling::wrong::complain_unknown;
 use commands::Command;
-use commands::named;
+use commands::words::named;
 use files::writing::Target;
 use lines::places::Places;
 use lines::refusals::say_refused;
