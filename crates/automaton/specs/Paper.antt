@@ -19,10 +19,6 @@ use Rattle.tracker.specs.declared.Track.{Track}
 -- ---- the paper's signs
 
 infix 50 _∈?_
--- {e ∈ E | p e}, of the n events
-abbrev pub those : ℕ → (ℕ → Bool) → ℕ
-those n p = gather n (λ e. cond (p e) (single e) 0)
-
 -- min(E′): of the events in E′ the one of lowest rank; there is none where E′ is empty
 abbrev pub min : ℕ → ℕ → Option ℕ
 min n x = cond (empty x) none (some (lowest n x))

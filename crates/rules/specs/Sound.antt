@@ -1,6 +1,6 @@
 -- What a graph with nothing against it is like, fact by fact, for the floors above; and that a step keeps a marking within the graph.
 -- Assumes nothing.
-use Prim.Native.Nat.{ℕ, _^_, _<_}
+use Prim.Native.Nat.{ℕ, _^_, _<_, _≤_}
 use mathlib.Core.Path.{_≡_}
 use mathlib.Core.Bool.{true, _&&_}
 use borrow.Author.Tests.{not-false}
@@ -13,7 +13,7 @@ use Rattle.moves.specs.declared.Verdict.{Verdict}
 use Rattle.tables.specs.Tables.{keeps, kindsApart}
 use Rattle.moves.specs.Move.{after}
 use Rattle.rules.specs.Answers.{rowOf, entryKnown}
-use Rattle.tables.specs.Laws.{Counted, keeps-row}
+use Rattle.tables.specs.Laws.{Counted, keeps-row, keeps-gone}
 use Rattle.rules.specs.Laws.{clear-counts}
 use Rattle.moves.specs.Given.{clear-head, clear-tail}
 use Rattle.moves.specs.Inside.{Inside}
@@ -23,6 +23,7 @@ pub record Sound (g : Graph) : Type 0 where
   pub counted : Counted (g .steps) (g .people) (g .roles)
   pub rolesOf-in : (s : ℕ) → rolesOf g s < 2 ^ (g .roles)
   pub rolesHeld-in : (p : ℕ) → rolesHeld g p < 2 ^ (g .roles)
+  pub nobody-holds : (p : ℕ) → g .people ≤ p → rolesHeld g p ≡ 0
   pub conditions-in : (s : ℕ) → conditionsOf g s < 2 ^ (g .steps)
   pub responses-in : (s : ℕ) → responsesOf g s < 2 ^ (g .steps)
   pub includes-in : (s : ℕ) → includesOf g s < 2 ^ (g .steps)
@@ -49,6 +50,7 @@ clear-sound g e =
       counted = clear-counts g e;
       rolesOf-in = keeps-row (g .steps) (g .roles) (g .allows) (and-left a h roles);
       rolesHeld-in = keeps-row (g .people) (g .roles) (g .holds) (and-right a h roles);
+      nobody-holds = keeps-gone (g .people) (g .roles) (g .holds) (and-right a h roles);
       conditions-in = keeps-row (g .steps) (g .steps) (g .conditions) (and-left c r firsts);
       responses-in = keeps-row (g .steps) (g .steps) (g .responses) (and-right c r firsts);
       includes-in = keeps-row (g .steps) (g .steps) (g .includes) (and-left i x lasts);

@@ -2,7 +2,7 @@
 -- the same members are the same number. None has a bound that it does not need. Assumes nothing.
 use Prim.Native.Nat.{ℕ, zero, suc, _+_, _-_, _*_, _/_, _%_, _^_, _≤_, _<_, zero-le, suc-le-suc}
 use native.Mathlib.Nat.{not-suc-le-zero, mod-lt, div-one, two-pow-succ, lt-of-lt-of-le, lt-of-le-of-lt, le-of-suc-le-suc, div-eq-of-lt}
-use native.Mathlib.Nat.{zero-div, one-mul, div-lt-iff-lt-mul, le-trans, le-refl, add-zero}
+use native.Mathlib.Nat.{zero-div, zero-mul, one-mul, div-lt-iff-lt-mul, le-trans, le-refl, add-zero}
 use native.Mathlib.Numerals.{add-one}
 use native.Mathlib.Omega.{arith}
 use native.Mathlib.Decide.{decLt}
@@ -13,8 +13,9 @@ use lib.Bits.{bitXor, and-shr, or-shr, xor-shr, and-mod, or-mod, xor-mod, or-lt,
 use lib.Bits.{xor-zero-r}
 use lib.Count.{trailingZeros, under}
 use lib.Pow.{pow-pos, pow-mono, pow-lt, shr-shr, ones-lt, le-ones, lt-of-le-ones, shl-exact}
+use mir.Val.{boolByte}
 use borrow.Author.Tests.{lt-ltb, le-ltb, eq-eqb, ne-eqb, eqb-true, ltb-true, le-leb, leb-true}
-use Rattle.sets.specs.Sets.{has, single, union, meet, minus, empty, subset, within, full, scan, lowest, gather, every}
+use Rattle.sets.specs.Sets.{has, single, union, meet, minus, empty, subset, within, full, scan, lowest, gather, every, those}
 use Rattle.sets.specs.Truth.{same-truth, and-intro, and-left, and-right, and-exchange, or-false, and-false, and-true, is-false}
 
 -- ---- digits
@@ -153,6 +154,11 @@ has-full n s = bit-full n s
 -- the machine's `1 << s`
 pub shifted-one : (s : ℕ) → s < 64 → 1 * 2 ^ s % 2 ^ 64 ≡ single s
 shifted-one s h = shl-exact 1 s 64 (lit< tt) (let z : 1 + s ≤ 64 = omega arith in z) ∙ one-mul (2 ^ s)
+
+-- a test shifted by s: the set with s alone, or the empty one
+pub shifted-test : (b : Bool) (s : ℕ) → s < 64 → boolByte b * 2 ^ s % 2 ^ 64 ≡ cond b (single s) 0
+shifted-test true s h = shifted-one s h
+shifted-test false s h = ap (λ (x : ℕ). x % 2 ^ 64) (zero-mul (2 ^ s))
 
 pub full-double : (s : ℕ) → single s + (single s - 1) ≡ full (s + 1)
 unfolding full
@@ -400,11 +406,11 @@ unfolding gather
 gather-more k f = rw add-one refl
 
 -- the steps below n of which q holds
-pub has-those : (n : ℕ) (q : ℕ → Bool) (s : ℕ) → has (gather n (λ e. cond (q e) (single e) 0)) s ≡ (ltb s n && q s)
+pub has-those : (n : ℕ) (q : ℕ → Bool) (s : ℕ) → has (those n q) s ≡ (ltb s n && q s)
 unfolding gather
 has-those zero q s = has-zero s ∙ sym (ap (λ (b : Bool). b && q s) (le-ltb s 0 zero-le))
 has-those (suc n) q s =
-    has-union (gather n (λ e. cond (q e) (single e) 0)) (cond (q n) (single n) 0) s
+    has-union (those n q) (cond (q n) (single n) 0) s
     ∙ ap₂ _||_ (has-those n q s) (one (q n))
     ∙ go (decLt s n) (decLt n s)
   where

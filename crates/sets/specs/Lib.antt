@@ -3,3 +3,4 @@ pub mod Truth
 pub mod Laws
 pub mod Digits
 pub mod Later
+pub mod Ranges

@@ -1,6 +1,6 @@
 -- Sets of steps. A set is a number: step s is in x exactly if digit s of x, in base two, is 1. Nothing here has a width.
 use Prim.Native.Nat.{ℕ, zero, suc, _-_, _/_, _%_, _^_}
-use mathlib.Core.Bool.{Bool, true, cond, _&&_}
+use mathlib.Core.Bool.{Bool, true, false, cond, _&&_, _||_}
 use lib.Dec.{eqb, ltb}
 use lib.Bits.{bitAnd, bitOr, bitXor}
 
@@ -58,3 +58,12 @@ gather (suc k) f = union (gather k f) (f k)
 unfoldable pub every : ℕ → (ℕ → Bool) → Bool
 every zero p = true
 every (suc k) p = every k p && p k
+
+-- p holds of some number below k
+unfoldable pub any : ℕ → (ℕ → Bool) → Bool
+any zero p = false
+any (suc k) p = any k p || p k
+
+-- the steps below n of which p holds
+abbrev pub those : ℕ → (ℕ → Bool) → ℕ
+those n p = gather n (λ s. cond (p s) (single s) 0)

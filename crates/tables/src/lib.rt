@@ -18,7 +18,7 @@ pub struct Arrows {
 }
 
 // The roles that the rows name. The count of rows is handed in, so that a caller who knows it has a loop of fixed length.
-fn roles_named(table: &[u64], count: usize) -> u64
+pub fn roles_named(table: &[u64], count: usize) -> u64
     requires { ⌜ count ≡ length (now table) ⌝ }
     ensures { λ r. ⌜ r ≡ gather (length (now (table .entry))) (row (now (table .entry))) ⌝ }
 {

@@ -1,0 +1,4 @@
+pub mod Greying
+pub mod Rows
+pub mod Laws
+pub mod Exactly

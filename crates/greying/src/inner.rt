@@ -1,0 +1,70 @@
+// The steps that are not grey, on a graph with nothing against it.
+ghost use mathlib.Core.Path.{_≡_};
+ghost use Prim.Native.Nat.{_≤_, _<_};
+ghost use Rattle.moves.specs.declared.Verdict.{Verdict};
+ghost use Rattle.rules.specs.Graph.{graphOf, graphVerdict};
+ghost use Rattle.greying.specs.Greying.{theChoice, theChoiceOfAll};
+ghost use Rattle.greying.specs.Rows.{rowPasses, stepsFor};
+use crate::Choice;
+use moves::Marking;
+use moves::Refusal;
+use moves::inner::fits;
+use moves::inner::waits;
+use rules::HOLDS;
+use rules::Job;
+use rules::WORDS;
+use rules::inner::row_at;
+use tables::roles_named;
+
+// Has who holds these roles one that the row allows, and is nothing waited for?
+fn passes(held: u64, allows: u64, conditions: u64, m: Marking) -> bool
+    ensures { λ r. ⌜ r ≡ rowPasses held allows conditions m ⌝ }
+{
+    let both = held & allows;
+    let awaited = waits(conditions, m);
+    (both != 0) & (awaited == 0)
+}
+
+// The steps that who holds these roles may take: one pass over the rows.
+fn steps_for(g: &Job, m: Marking, held: u64) -> u64
+    requires { ⌜ graphVerdict (graphOf (now g)) ≡ Verdict.Clear ⌝ }
+    ensures { λ r. ⌜ r ≡ stepsFor (graphOf (now (g .entry))) m held ⌝ }
+{
+    let n = g[0] as u8;
+    let mut found = 0;
+    let mut s = 0;
+    while s < n {
+        let w = row_at(g, 0, s);
+        found = found | sets::single_if(passes(held, w.allows, w.conditions, m), s);
+        s += 1;
+    }
+    found & m.included
+}
+
+// A marking and a person. Refusals 8, 11.
+pub fn choice_on(g: &Job, m: Marking, person: u64) -> Choice
+    requires { ⌜ graphVerdict (graphOf (now g)) ≡ Verdict.Clear ⌝ }
+    ensures { λ r. ⌜ r ≡ theChoice (graphOf (now (g .entry))) m person ⌝ }
+{
+    if !fits(g[0], m) {
+        return Choice::Refused(Refusal::Outside);
+    }
+    if g[1] <= person {
+        return Choice::Refused(Refusal::Unknown);
+    }
+    let w = row_at(g, person as u8, 0);
+    Choice::Steps(steps_for(g, m, w.held))
+}
+
+// A marking, and whoever there is. Refusal 8.
+pub fn choice_of_all_on(g: &Job, m: Marking) -> Choice
+    requires { ⌜ graphVerdict (graphOf (now g)) ≡ Verdict.Clear ⌝ }
+    ensures { λ r. ⌜ r ≡ theChoiceOfAll (graphOf (now (g .entry))) m ⌝ }
+{
+    if !fits(g[0], m) {
+        return Choice::Refused(Refusal::Outside);
+    }
+    let w = &g[..];
+    let held = roles_named(&w[HOLDS..WORDS], 16);
+    Choice::Steps(steps_for(g, m, held))
+}
