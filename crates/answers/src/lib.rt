@@ -21,6 +21,13 @@ pub struct Asked {
     pub waiting: u64,
 }
 
+// The steps that are allowed.
+#[repr(C)]
+pub struct Allowed {
+    pub number: u64,
+    pub steps: u64,
+}
+
 // The marking after, or from 11 on the marking handed in.
 #[repr(C)]
 pub struct Moved {

@@ -3,17 +3,20 @@ ghost use mathlib.Core.Path.{_≡_};
 ghost use Rattle.moves.specs.First.{numberOfVerdict, numberOf, waitingOf};
 ghost use Rattle.moves.specs.Move.{numberOfAsked, waitingOfAsked, numberOfMove, waitingOfMove, markingOfMove};
 ghost use Rattle.rules.specs.Answers.{numberOfEnding};
+ghost use Rattle.greying.specs.Greying.{numberOfChoice, stepsOfChoice};
 ghost use Rattle.journal.specs.Run.{numberOfRun, waitingOfRun, indexOfRun, markingOfRun};
 ghost use Rattle.journal.specs.Walk.{numberOfWalked, entryOfWalked};
 ghost use Rattle.records.specs.Answers.{numberOfApplied, markingOfApplied};
 ghost use Rattle.sheet.specs.Sheet.{numberOfWritten, lengthOfWritten};
 ghost use Rattle.answers.specs.Values.{finishedOfEnding, endedOfWalked, lengthOfSpelling};
+use crate::Allowed;
 use crate::Asked;
 use crate::Ending;
 use crate::Moved;
 use crate::Ran;
 use crate::Walked;
 use crate::Written;
+use greying::Choice;
 use moves::Entry;
 use moves::Move;
 use moves::Refusal;
@@ -89,6 +92,22 @@ pub fn asked(o: moves::Asked) -> Asked
                 waiting: w.waiting,
             }
         }
+    }
+}
+
+pub fn allowed(o: Choice) -> Allowed
+    ensures { λ r. ⌜ r .number ≡ numberOfChoice o ⌝ }
+    ensures { λ r. ⌜ r .steps ≡ stepsOfChoice o ⌝ }
+{
+    match o {
+        Choice::Steps(x) => Allowed {
+            number: 0,
+            steps: x,
+        },
+        Choice::Refused(r) => Allowed {
+            number: said(r).number,
+            steps: 0,
+        },
     }
 }
 

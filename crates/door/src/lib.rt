@@ -6,6 +6,7 @@ ghost use Rattle.moves.specs.First.{numberOfVerdict};
 ghost use Rattle.moves.specs.Move.{numberOfAsked, waitingOfAsked, numberOfMove, waitingOfMove, markingOfMove};
 ghost use Rattle.rules.specs.Graph.{graphOf, graphVerdict};
 ghost use Rattle.rules.specs.Answers.{theAsked, theMove, theEnding, numberOfEnding};
+ghost use Rattle.greying.specs.Greying.{theChoice, theChoiceOfAll, numberOfChoice, stepsOfChoice};
 ghost use Rattle.kept.specs.Keep.{theKept};
 ghost use Rattle.journal.specs.Run.{theRun, numberOfRun, waitingOfRun, indexOfRun, markingOfRun};
 ghost use Rattle.journal.specs.Walk.{strideAt, numberOfWalked, entryOfWalked};
@@ -20,6 +21,7 @@ ghost use Rattle.answers.specs.Lent.{markingOfWords, markingWords, keptOut};
 ghost use Rattle.answers.specs.Folded.{recordIn, recordOf, spellVerdict, bytesOut, wordsOut};
 ghost use Rattle.onward.specs.Tracks.{trackIn, noTrack, trackOfTracked};
 ghost use Rattle.onward.specs.Endless.{LapTold};
+use answers::Allowed;
 use answers::Asked;
 use answers::Ending;
 use answers::Kept;
@@ -56,6 +58,28 @@ pub extern "C" fn ulz_ask(g: &Job, m: Marking, e: Entry) -> Asked
 {
     let o = rules::ask(g, m, e);
     told::asked(o)
+}
+
+// Refusals 2, 4, 6, 8, 11.
+#[no_mangle]
+pub extern "C" fn ulz_allowed_to(g: &Job, m: Marking, person: u64) -> Allowed
+    ensures { λ r. ⌜ r .number ≡ numberOfChoice (theChoice (graphOf (now (g .entry))) m person) ⌝ }
+    ensures { λ r. ⌜ r .steps ≡ stepsOfChoice (theChoice (graphOf (now (g .entry))) m person) ⌝ }
+    ensures { λ r. ⌜ now (g .exit) ≡ now (g .entry) ⌝ }
+{
+    let o = greying::allowed_to(g, m, person);
+    told::allowed(o)
+}
+
+// Refusals 2, 4, 6, 8.
+#[no_mangle]
+pub extern "C" fn ulz_allowed_to_someone(g: &Job, m: Marking) -> Allowed
+    ensures { λ r. ⌜ r .number ≡ numberOfChoice (theChoiceOfAll (graphOf (now (g .entry))) m) ⌝ }
+    ensures { λ r. ⌜ r .steps ≡ stepsOfChoice (theChoiceOfAll (graphOf (now (g .entry))) m) ⌝ }
+    ensures { λ r. ⌜ now (g .exit) ≡ now (g .entry) ⌝ }
+{
+    let o = greying::allowed_to_someone(g, m);
+    told::allowed(o)
 }
 
 // As `ulz_ask`, and if it is allowed the marking after.
