@@ -69,6 +69,13 @@ int main(void) {
     ulz_kept kept = ulz_keep(&g, &marking, publish);
     expect(ULZ_EXCLUDED, kept.number);
     printf("publish: refused with %d, %s\n", (int)kept.number, ulz_text(kept.number));
+    for (uint64_t person = 0; person < g.people; person++) {
+        ulz_allowed allowed = ulz_allowed_to(&g, marking, person);
+        expect(ULZ_ANSWERED, allowed.number);
+        printf("allowed to person %d", (int)person);
+        print_set(":", allowed.steps);
+        printf("\n");
+    }
 
     uint8_t record[ULZ_RECORD_BYTES];
     expect(ULZ_ANSWERED, ulz_fold(&g, rebooted, sizeof rebooted, record));

@@ -75,6 +75,10 @@ fn main() -> Result<(), Box<dyn Error>> {
             refusal.text()
         );
     }
+    for person in 0..g.people {
+        let steps = g.allowed_to(marking, person)?;
+        println!("allowed to person {person}: {:?}", shown(steps));
+    }
 
     let record = g.fold(&REBOOTED)?;
     println!("folded: {} bytes of journal", REBOOTED.len());

@@ -67,7 +67,7 @@ enum {
     ULZ_OUTSIDE = 8,      /* a marking, other than a sheet's, has a step at or beyond the count of steps */
     ULZ_NO_RANK = 9,      /* a track's rank is outside 1 to steps */
     ULZ_ILL_FORMED = 10,  /* not a well-formed record for so many steps, or not 65 bytes: see "Records" */
-    ULZ_UNKNOWN = 11,     /* the entry's person, step or role is at or beyond its count */
+    ULZ_UNKNOWN = 11,     /* the entry's person, step or role is at or beyond its count, or the person of ulz_allowed_to is */
     ULZ_NOT_HELD = 12,    /* the entry's person lacks the role */
     ULZ_NOT_ON_STEP = 13, /* the entry's step cannot be taken in the role */
     ULZ_EXCLUDED = 14,    /* the entry's step is not included at present */
@@ -158,7 +158,7 @@ typedef struct ulz_record {
 /*
  * ---- Answers ----
  *
- * Every answer has a number, one of those above. All but three have
+ * Every answer has a number, one of those above. All but four have
  *
  *     waiting   with ULZ_WAITS the set of all steps that are waited for: those of conditions[step] that are included and not done
  *               at the marking before the entry. With ULZ_WAITS it is never empty, with every other number it is 0
@@ -177,6 +177,12 @@ typedef struct ulz_asked {
     uint64_t number;
     uint64_t waiting;
 } ulz_asked;
+
+/* Of ulz_allowed_to and ulz_allowed_to_someone. */
+typedef struct ulz_allowed {
+    uint64_t number;
+    uint64_t steps; /* the set of all steps that are allowed; it may be empty */
+} ulz_allowed;
 
 /* Of ulz_finished. */
 typedef struct ulz_ending {
@@ -253,6 +259,16 @@ uint64_t ulz_check(const ulz_graph *graph);
 
 /* Is the entry allowed? Nothing is taken, and all that is handed over stays as it is. Numbers: 2, 4, 6, 8, 11 to 15. */
 ulz_asked ulz_ask(const ulz_graph *graph, ulz_marking marking, ulz_entry entry);
+
+/*
+ * The steps that are allowed to the person: step s is in the set exactly where ulz_ask allows the person to take it in some role.
+ * A screen that greys out all others asks once, and not once for each step and role. The person is a number from 0; any that is
+ * at or beyond the count of people is 11, also one that fits no byte. Numbers: 2, 4, 6, 8, 11.
+ */
+ulz_allowed ulz_allowed_to(const ulz_graph *graph, ulz_marking marking, uint64_t person);
+
+/* The steps that are allowed to someone: those of all people together. Numbers: 2, 4, 6, 8. */
+ulz_allowed ulz_allowed_to_someone(const ulz_graph *graph, ulz_marking marking);
 
 /*
  * Takes a step: asks, and if the entry is allowed gives the marking after. What ulz_ask refuses is refused here, with the same

@@ -23,6 +23,8 @@ static uint64_t number;
 static void none(void) { number = 0; }
 static void check(void) { number = ulz_check(&graph); }
 static void ask(void) { number = ulz_ask(&graph, start, entry).number; }
+static void allowed(void) { number = ulz_allowed_to(&graph, start, 15).number; }
+static void someone(void) { number = ulz_allowed_to_someone(&graph, start).number; }
 static void take(void) { number = ulz_take(&graph, start, entry).number; }
 static void finished(void) { number = ulz_finished(&graph, start).number; }
 static void keep(void) { number = ulz_keep(&graph, &marking, entry).number; }
@@ -45,10 +47,10 @@ static const struct {
     const char *name;
     void (*call)(void);
 } calls[] = {
-    {"check", check}, {"ask", ask}, {"take", take}, {"finished", finished}, {"keep", keep}, {"run", run}, {"walk", walk},
-    {"fold", fold}, {"join", join}, {"apply", apply}, {"record_read", record_read}, {"record_write", record_write},
-    {"restore", restore}, {"write", writes}, {"read", reads}, {"lap", lap}, {"track_start", track_start},
-    {"track_idle", track_idle}, {"track_step", track_step},
+    {"check", check}, {"ask", ask}, {"allowed_to", allowed}, {"allowed_to_someone", someone}, {"take", take},
+    {"finished", finished}, {"keep", keep}, {"run", run}, {"walk", walk}, {"fold", fold}, {"join", join}, {"apply", apply},
+    {"record_read", record_read}, {"record_write", record_write}, {"restore", restore}, {"write", writes}, {"read", reads},
+    {"lap", lap}, {"track_start", track_start}, {"track_idle", track_idle}, {"track_step", track_step},
 };
 
 /* A full graph: everything responds to and includes everything, nothing waits, and person 0 may do it all. */
@@ -90,7 +92,7 @@ int main(void) {
     const size_t idle = used(none);
     for (size_t i = 0; i < sizeof calls / sizeof calls[0]; i++) {
         const size_t bytes = used(calls[i].call) - idle;
-        printf("%-14s %5zu bytes\n", calls[i].name, bytes);
+        printf("%-18s %5zu bytes\n", calls[i].name, bytes);
         if (number != ULZ_ANSWERED)
             return fprintf(stderr, "stack: %s was refused with %d\n", calls[i].name, (int)number), 2;
         most = bytes > most ? bytes : most;

@@ -45,6 +45,12 @@ def main():
             assert refused(call, start, Entry(*entry)).refusal == refusal
     assert refused(graph.ask, rebooted, PUBLISH).refusal == Refusal.EXCLUDED
     assert refused(graph.ask, Marking(8), REBOOT).refusal == Refusal.OUTSIDE
+    assert [graph.allowed_to(marking, person) for marking in (start, rebooted) for person in (0, 1)] == [0b011, 0b001, 0b011, 0b001]
+    assert (graph.allowed_to_someone(rebooted), graph.allowed_to_someone(Marking(0b010, 0, 0b111))) == (0b011, 0b111)
+    for person in 2, 256, (1 << 64) - 1:
+        assert refused(graph.allowed_to, start, person).refusal == Refusal.UNKNOWN
+    for call, arguments in (graph.allowed_to, (Marking(8), 2)), (graph.allowed_to_someone, (Marking(8),)):
+        assert refused(call, *arguments).refusal == Refusal.OUTSIDE
     assert graph.run(start, bytes(REBOOT) + bytes(CHECK)) == (2, Marking(0b011, 0, 0b111))
     assert refused(graph.run, start, b"\0").refusal == Refusal.LENGTH
     stopped = refused(graph.run, start, bytes(REBOOT) + bytes(PUBLISH))
@@ -67,6 +73,7 @@ def main():
     assert (track.rank, track.flag, track.marking) == (1, 0, rebooted)
     waiting(start)
     assert overflows(Entry, 256, 0, 0) and overflows(Marking, 1 << 64) and overflows(ulzhartep.apply, -1, first, start)
+    assert overflows(graph.allowed_to, start, 1 << 64) and overflows(graph.allowed_to, start, -1)
     assert overflows(graph.conditions.__setitem__, 0, 1 << 64) and overflows(setattr, graph, "steps", -1)
     print("every call answers")
 

@@ -46,6 +46,8 @@ def main():
     print_marking("rebooted", marking)
     why = refused(graph.keep, marking, PUBLISH)
     print(f"publish: refused with {why.number}, {why.text}")
+    for person in range(graph.people):
+        print(f"allowed to person {person}: {shown(graph.allowed_to(marking, person))}")
 
     record = graph.fold(bytes(REBOOT))
     print(f"folded: {len(bytes(REBOOT))} bytes of journal")

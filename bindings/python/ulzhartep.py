@@ -219,6 +219,14 @@ class Graph(_Block):
         """Is the entry allowed? Nothing is taken; refused where it is not."""
         _answered(_library.ulz_ask(ctypes.byref(self), marking, entry))
 
+    def allowed_to(self, marking, person):
+        """The set of the steps that the person may take in some role: those that ask allows in one."""
+        return _answered(_library.ulz_allowed_to(ctypes.byref(self), marking, _word(person))).steps
+
+    def allowed_to_someone(self, marking):
+        """The set of the steps that someone may take: those of all people together."""
+        return _answered(_library.ulz_allowed_to_someone(ctypes.byref(self), marking)).steps
+
     def take(self, marking, entry):
         """Takes a step: asks, and if the entry is allowed gives the marking after. What ask refuses is refused here alike."""
         return _answered(_library.ulz_take(ctypes.byref(self), marking, entry)).marking
@@ -285,6 +293,10 @@ def apply(n, record, marking):
 
 class _Asked(_Block):
     _fields_ = _fields("number waiting")
+
+
+class _Allowed(_Block):
+    _fields_ = _fields("number steps")
 
 
 class _Ending(_Block):
@@ -357,6 +369,8 @@ def _declare(library):
     for name, answer, takes in [
         ("ulz_check", word, [graph]),
         ("ulz_ask", _Asked, [graph, Marking, Entry]),
+        ("ulz_allowed_to", _Allowed, [graph, Marking, word]),
+        ("ulz_allowed_to_someone", _Allowed, [graph, Marking]),
         ("ulz_take", _Moved, [graph, Marking, Entry]),
         ("ulz_finished", _Ending, [graph, Marking]),
         ("ulz_keep", _Kept, [graph, ctypes.POINTER(Marking), Entry]),

@@ -10,7 +10,7 @@ use native.Mathlib.Decide.{decLt}
 use lib.Dec.{eqb, ltb}
 use lib.Bits.{and-comm}
 use borrow.Author.Tests.{lt-ltb, le-ltb, le-leb, eq-eqb, eqb-true, eqb-false}
-use Rattle.sets.specs.Sets.{has, single, union, meet, minus, empty, full, lowest}
+use Rattle.sets.specs.Sets.{has, single, union, meet, minus, empty, full, lowest, those}
 use Rattle.sets.specs.Truth.{and-left, and-intro, same-truth}
 use Rattle.sets.specs.Laws.{ext, has-minus, has-union, has-single, has-above, meet-lt, minus-lt, lowest-has, lowest-wider, has-those}
 use Rattle.rules.specs.Graph.{Graph, graphVerdict}
@@ -26,7 +26,7 @@ use Rattle.tracker.specs.declared.Track.{Track}
 use Rattle.tracker.specs.declared.Tracked.{Tracked}
 use Rattle.tracker.specs.Tracker.{isRank, begin, rest, pending, above, pool, meets, served, trackAfter}
 use Rattle.tracker.specs.Tracker.{startLines, theStart, theIdle, theStep}
-use Rattle.automaton.specs.Paper.{State, Initial, Tau, Transition, those, min, _∈?_, rankOfMin, j′, i′}
+use Rattle.automaton.specs.Paper.{State, Initial, Tau, Transition, min, _∈?_, rankOfMin, j′, i′}
 use Rattle.tracker.specs.Laws.{above-members, sound-inside, start-clear, idle-clear, idle-at, Stepped, step-at, at-step, rank-is}
 use Rattle.automaton.specs.States.{start-is}
 

@@ -17,6 +17,8 @@ use Rattle.rules.specs.Graph.{Graph, graphLines, graphVerdict, setsFit}
 use Rattle.rules.specs.Answers.{moveLines, theAsked, theMove, theEnding, numberOfEnding}
 use Rattle.rules.specs.Asking.{asked-lines}
 use Rattle.rules.specs.Paper.{move-number, ending-number}
+use Rattle.greying.specs.Greying.{choiceLines, theChoice, theChoiceOfAll, numberOfChoice}
+use Rattle.greying.specs.Exactly.{choice-number, all-number}
 use Rattle.kept.specs.Keep.{theKept}
 use Rattle.journal.specs.declared.Stride.{Stride}
 use Rattle.journal.specs.Run.{lengthLines}
@@ -61,7 +63,16 @@ module _ (g : Graph) where
   unfolding ascends numberOf
   ask-given m e = exactly (moveLines g m e) (numberOfAsked (theAsked g m e)) refl (asked-lines g m e)
 
-  -- take: the same
+  -- the steps that are allowed to a person: 2, 4, 6, 8, 11; to someone: 2, 4, 6, 8
+  pub choice-given : (m : Marking) (p : ℕ) → Exactly (numberOfChoice (theChoice g m p)) (choiceLines g m p)
+  unfolding ascends numberOf
+  choice-given m p = exactly (choiceLines g m p) (numberOfChoice (theChoice g m p)) refl (choice-number g m p)
+
+  pub all-given : (m : Marking) → Exactly (numberOfChoice (theChoiceOfAll g m)) (startLines g m)
+  unfolding ascends numberOf
+  all-given m = exactly (startLines g m) (numberOfChoice (theChoiceOfAll g m)) refl (all-number g m)
+
+  -- take: as ask
   pub take-given : (m : Marking) (e : Entry) → Exactly (numberOfMove (theMove g m e)) (moveLines g m e)
   unfolding ascends numberOf
   take-given m e = exactly (moveLines g m e) (numberOfMove (theMove g m e)) refl (move-number g m e)

@@ -12,6 +12,7 @@ use Rattle.sets.specs.Sets.{has, any, those}
 use Rattle.sets.specs.Truth.{and-intro, and-right}
 use Rattle.sets.specs.Laws.{has-those}
 use Rattle.sets.specs.Ranges.{any-at, any-of}
+use Rattle.moves.specs.Move.{entryOf}
 use Rattle.moves.specs.declared.Marking.{Marking}
 use Rattle.moves.specs.declared.Verdict.{Verdict}
 use Rattle.moves.specs.declared.Asked.{Asked}
@@ -21,7 +22,7 @@ use Rattle.rules.specs.Answers.{theAsked, markingLines}
 use Rattle.rules.specs.Entries.{Named, known-named}
 use Rattle.rules.specs.Paper.{Ready, Allowed, asked-allowed, allowed-asked}
 use Rattle.greying.specs.declared.Choice.{Choice}
-use Rattle.greying.specs.Greying.{entryOf, granted, allowedTo, allowedToSomeone, choiceLines, choiceOf, theChoice, theChoiceOfAll}
+use Rattle.greying.specs.Greying.{granted, allowedTo, allowedToSomeone, choiceLines, choiceOf, theChoice, theChoiceOfAll}
 use Rattle.greying.specs.Greying.{numberOfChoice, stepsOfChoice}
 
 -- ---- an entry, and the roles and people that there are

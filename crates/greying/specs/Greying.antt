@@ -5,21 +5,16 @@ use mathlib.Core.Bool.{Bool, true, false, not}
 use lib.Dec.{ltb}
 use Rattle.sets.specs.Sets.{any, those}
 use Rattle.moves.specs.declared.Marking.{Marking}
-use Rattle.moves.specs.declared.Entry.{Entry}
-use Rattle.moves.specs.declared.Step.{Step}
 use Rattle.moves.specs.declared.Refusal.the-variants.{Unknown}
 use Rattle.moves.specs.declared.Verdict.{Verdict}
 use Rattle.moves.specs.declared.Asked.{Asked}
 use Rattle.moves.specs.First.{Line, first, numberOf}
+use Rattle.moves.specs.Move.{entryOf}
 use Rattle.rules.specs.Graph.{Graph, graphLines}
 use Rattle.rules.specs.Answers.{theAsked, markingLines}
 use Rattle.greying.specs.declared.Choice.{Choice}
 
--- person p takes step s in role r
-abbrev pub entryOf : ℕ → ℕ → ℕ → Entry
-entryOf p s r = record { person = p; step = record { 0 = s }; role = r }
-
--- is that the answer?
+-- the answer to who asks is yes
 unfoldable pub granted : Asked → Bool
 granted Asked.Allowed = true
 granted (Asked.Refused r) = false
@@ -56,12 +51,12 @@ theChoiceOfAll g m = choiceOf (first (graphLines g ++ markingLines g m)) (those 
 
 -- ---- number and values of each case
 
--- 0 where there are steps to choose from, or none
+-- 0 where a set is answered, be it empty
 unfoldable pub numberOfChoice : Choice → ℕ
 numberOfChoice (Choice.Steps steps) = 0
 numberOfChoice (Choice.Refused r) = numberOf r
 
--- none with a refusal
+-- with a refusal the empty set
 unfoldable pub stepsOfChoice : Choice → ℕ
 stepsOfChoice (Choice.Steps steps) = steps
 stepsOfChoice (Choice.Refused r) = 0

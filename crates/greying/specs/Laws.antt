@@ -16,7 +16,7 @@ use Rattle.moves.specs.declared.Refusal.{Refusal}
 use Rattle.moves.specs.declared.Refusal.the-variants.{Outside, Unknown, NotHeld, NotOnStep, Excluded, Waits}
 use Rattle.moves.specs.declared.Verdict.{Verdict}
 use Rattle.moves.specs.First.{first}
-use Rattle.moves.specs.Move.{askedOf, markingFits, waitsFor}
+use Rattle.moves.specs.Move.{entryOf, askedOf, markingFits, waitsFor}
 use Rattle.moves.specs.Given.{first-clear, first-refused, clear-head, clear-tail}
 use Rattle.tables.specs.Tables.{row, keeps}
 use Rattle.tables.specs.Laws.{keeps-gone}
@@ -25,7 +25,7 @@ use Rattle.rules.specs.Answers.{theAsked, entryKnown, markingLines}
 use Rattle.rules.specs.Laws.{asked-clear, on-inside, entry-known, clear-counts}
 use Rattle.rules.specs.Sound.{Sound, clear-sound}
 use Rattle.greying.specs.declared.Choice.{Choice}
-use Rattle.greying.specs.Greying.{entryOf, granted, allowedTo, allowedToSomeone, personLines, choiceOf, theChoice, theChoiceOfAll}
+use Rattle.greying.specs.Greying.{granted, allowedTo, allowedToSomeone, personLines, choiceOf, theChoice, theChoiceOfAll}
 use Rattle.greying.specs.Rows.{rowPasses, stepPasses, stepsFor}
 
 -- ---- one entry, asked all at once

@@ -5,10 +5,7 @@ use mathlib.Core.Bool.{Bool, _&&_}
 use lib.ListN.{length, getD}
 use lib.Dec.{eqb, leb}
 use Rattle.moves.specs.declared.Entry.{Entry}
-
--- an entry is a person, a step and a role
-abbrev pub entryOf : ℕ → ℕ → ℕ → Entry
-entryOf person step role = record { person = person; step = record { 0 = step }; role = role }
+use Rattle.moves.specs.Move.{entryOf}
 
 -- every three bytes of a journal are an entry: its person, its step, its role
 unfoldable pub entries : List ℕ → List Entry

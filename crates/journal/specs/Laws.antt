@@ -19,10 +19,10 @@ use Rattle.moves.specs.declared.Verdict.{Verdict}
 use Rattle.moves.specs.declared.Move.{Move}
 use Rattle.moves.specs.First.{first}
 use Rattle.rules.specs.Answers.{entryAsked, refusalIn, entryMove, markingLines}
-use Rattle.moves.specs.Move.{markingFits, noMarking}
+use Rattle.moves.specs.Move.{entryOf, markingFits, noMarking}
 use Rattle.moves.specs.Given.{first-clear, first-refused}
 use Rattle.journal.specs.declared.Ran.{Ran}
-use Rattle.journal.specs.Journal.{entryOf, entries, entryAt, lengthFits}
+use Rattle.journal.specs.Journal.{entries, entryAt, lengthFits}
 use Rattle.journal.specs.Allowed.{isAllowed, refused-moved}
 use Rattle.journal.specs.Run.{goOn, lengthLines, ranOf, theRun, runFrom}
 use Rattle.journal.specs.Inner.{runOn, run-from}

@@ -2,12 +2,13 @@
 use Prim.Native.Nat.{ℕ, _+_}
 use mathlib.Core.List.{List, [], _∷_}
 use lib.ListN.{drop}
+use Rattle.moves.specs.Move.{entryOf}
 use Rattle.moves.specs.declared.Entry.{Entry}
 use Rattle.moves.specs.declared.Verdict.{Verdict}
 use Rattle.moves.specs.First.{first, numberOf}
 use Rattle.journal.specs.declared.Walked.{Walked}
 use Rattle.journal.specs.declared.Stride.{Stride}
-use Rattle.journal.specs.Journal.{entryOf, entries}
+use Rattle.journal.specs.Journal.{entries}
 use Rattle.journal.specs.Run.{lengthLines}
 
 -- nothing is handed out, and the walk stays put

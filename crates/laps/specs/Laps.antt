@@ -6,6 +6,7 @@ use mathlib.Core.Bool.{not, _&&_, cond}
 use lib.ListN.{length, getD}
 use lib.Dec.{eqb, ltb}
 use Rattle.rules.specs.Graph.{Graph, graphLines}
+use Rattle.moves.specs.Move.{entryOf}
 use Rattle.moves.specs.declared.Marking.{Marking}
 use Rattle.moves.specs.declared.Entry.{Entry}
 use Rattle.moves.specs.declared.Refusal.{Refusal}
@@ -13,7 +14,7 @@ use Rattle.moves.specs.declared.Refusal.the-variants.{Length, EmptyLap}
 use Rattle.moves.specs.declared.Verdict.{Verdict}
 use Rattle.moves.specs.First.{Line, first, numberOf, waitingOf}
 use Rattle.rules.specs.Answers.{markingLines}
-use Rattle.journal.specs.Journal.{entryOf, entries, lengthFits}
+use Rattle.journal.specs.Journal.{entries, lengthFits}
 use Rattle.laps.specs.declared.Lapped.{Lapped}
 use Rattle.laps.specs.declared.Pass.{Pass}
 use Rattle.laps.specs.Endless.{RefusedAt, GoesOn, Accepting, Starves}

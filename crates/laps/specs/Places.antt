@@ -13,13 +13,13 @@ use lib.Dec.{ltb}
 use borrow.Author.Tests.{lt-ltb, le-ltb}
 use Rattle.sets.specs.Sets.{has}
 use Rattle.rules.specs.Graph.{Graph, graphVerdict}
+use Rattle.moves.specs.Move.{entryOf}
 use Rattle.moves.specs.declared.Move.{Move}
 use Rattle.moves.specs.Inside.{Inside}
 use Rattle.moves.specs.declared.Marking.{Marking}
 use Rattle.moves.specs.declared.Entry.{Entry}
 use Rattle.moves.specs.declared.Refusal.{Refusal}
 use Rattle.moves.specs.declared.Verdict.{Verdict}
-use Rattle.journal.specs.Journal.{entryOf}
 use Rattle.folding.specs.Effect.{afterAll}
 use Rattle.folding.specs.Laws.{after-twice}
 use Rattle.laps.specs.declared.Pass.{Pass}

@@ -14,6 +14,10 @@ use Rattle.moves.specs.declared.Asked.{Asked}
 use Rattle.moves.specs.declared.Move.{Move}
 use Rattle.moves.specs.First.{Line, numberOf, waitingOf}
 
+-- person p takes step s in role r
+abbrev pub entryOf : ℕ → ℕ → ℕ → Entry
+entryOf p s r = record { person = p; step = record { 0 = s }; role = r }
+
 -- Definition 5: p as r
 abbrev pub personHolds : Row → Entry → Bool
 personHolds w e = has (w .held) (e .role)

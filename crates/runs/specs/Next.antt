@@ -11,11 +11,11 @@ use borrow.Author.Tests.{eq-eqb, le-leb}
 use Rattle.sets.specs.Truth.{and-intro}
 use Rattle.moves.specs.declared.Marking.{Marking}
 use Rattle.moves.specs.declared.Asked.{Asked}
-use Rattle.moves.specs.Move.{moveOf}
+use Rattle.moves.specs.Move.{entryOf, moveOf}
 use Rattle.rules.specs.Graph.{Graph}
 use Rattle.rules.specs.Answers.{theAsked, theMove, afterEntry}
 use Rattle.journal.specs.declared.Ran.{Ran}
-use Rattle.journal.specs.Journal.{entryOf, entries, lengthFits}
+use Rattle.journal.specs.Journal.{entries, lengthFits}
 use Rattle.journal.specs.Run.{goOn, runFrom, theRun}
 use Rattle.journal.specs.Laws.{fits-threes, entries-append, run-clear}
 use Rattle.runs.specs.Runs.{andThen, run-append, Runnable, ended-passes, passes-run}

@@ -8,6 +8,7 @@ use native.Mathlib.Omega.{arith}
 use lib.ListN.{length, take, drop}
 use lib.Seq.{take-nil, take-all, drop-drop}
 use Rattle.rules.specs.Graph.{Graph}
+use Rattle.moves.specs.Move.{entryOf}
 use Rattle.moves.specs.declared.Marking.{Marking}
 use Rattle.moves.specs.declared.Entry.{Entry}
 use Rattle.moves.specs.declared.Refusal.{Refusal}
@@ -17,7 +18,7 @@ use Rattle.rules.specs.Answers.{theMove}
 use Rattle.journal.specs.declared.Ran.{Ran}
 use Rattle.journal.specs.declared.Walked.{Walked}
 use Rattle.journal.specs.declared.Stride.{Stride}
-use Rattle.journal.specs.Journal.{entryOf, entries, entryAt, lengthFits}
+use Rattle.journal.specs.Journal.{entries, entryAt, lengthFits}
 use Rattle.journal.specs.Run.{theRun}
 use Rattle.journal.specs.Walk.{handOut, strideAt}
 use Rattle.journal.specs.Laws.{walk-fits, walk-length, walk-entry, walk-end, fits-threes, entries-length, entries-at}

@@ -8,7 +8,7 @@ use Rattle.moves.specs.declared.Marking.{Marking}
 use Rattle.moves.specs.declared.Entry.{Entry}
 use Rattle.moves.specs.declared.Asked.{Asked}
 use Rattle.moves.specs.declared.Move.{Move}
-use Rattle.moves.specs.Move.{numberOfAsked, waitingOfAsked, numberOfMove, waitingOfMove, markingOfMove}
+use Rattle.moves.specs.Move.{entryOf, numberOfAsked, waitingOfAsked, numberOfMove, waitingOfMove, markingOfMove}
 use Rattle.rules.specs.Graph.{Graph}
 use Rattle.records.specs.declared.Recorded.{Recorded}
 use Rattle.tracker.specs.declared.Tracked.{Tracked}
@@ -24,10 +24,6 @@ set (s ∷ rest) = union (single s) (set rest)
 -- Ex, Re, In
 abbrev pub marking : List ℕ → List ℕ → List ℕ → Marking
 marking Ex Re In = record { done = set Ex; due = set Re; included = set In }
-
--- (person, step, role)
-abbrev pub entry : ℕ → ℕ → ℕ → Entry
-entry p s r = record { person = p; step = record { 0 = s }; role = r }
 
 -- the sets given, one to a row, then empty rows, k in all
 unfoldable pub rows : ℕ → List (List ℕ) → List ℕ
@@ -91,14 +87,14 @@ firstMarking = marking [] [] (0 ∷ 1 ∷ 2 ∷ [])
 
 -- (0,0,0), and (0,1,0): the climber reboots, and does the order check
 abbrev pub reboot : Entry
-reboot = entry 0 0 0
+reboot = entryOf 0 0 0
 
 abbrev pub check : Entry
-check = entry 0 1 0
+check = entryOf 0 1 0
 
 -- (1,2,1): the desk publishes
 abbrev pub publish : Entry
-publish = entry 1 2 1
+publish = entryOf 1 2 1
 
 -- the marking of S2, and that of S4
 abbrev pub rebooted : Marking

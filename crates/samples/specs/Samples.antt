@@ -5,7 +5,7 @@ use mathlib.Core.List.{List, [], _∷_}
 use mathlib.Core.Bool.{true, false}
 use Rattle.sets.specs.Sets.{has, full, scan, lowest, every}
 use Rattle.moves.specs.First.{first, numberOf, waitingOf}
-use Rattle.moves.specs.Move.{askedOf, moveOf, isFinished, numberOfAsked, waitingOfAsked, numberOfMove, waitingOfMove, markingOfMove}
+use Rattle.moves.specs.Move.{entryOf, askedOf, moveOf, isFinished, numberOfAsked, waitingOfAsked, numberOfMove, waitingOfMove, markingOfMove}
 use Rattle.tables.specs.Tables.{keeps}
 use Rattle.rules.specs.Graph.{setsFit}
 use Rattle.rules.specs.Answers.{theAsked, theMove, entryAsked, entryMove}
@@ -20,7 +20,7 @@ use Rattle.laps.specs.Laps.{LapAnswer}
 use Rattle.laps.specs.Decision.{goThrough, legOn, upon, secondLap, firstLap, decision, lapOf, theLap}
 use Rattle.laps.specs.Laws.{the-lap-right}
 use Rattle.tracker.specs.Tracker.{theStart, theStep, trackAfter, trackedOf}
-use Rattle.samples.specs.Job.{set, rows, targets, sources, table, given, answered, job, firstMarking, entry}
+use Rattle.samples.specs.Job.{set, rows, targets, sources, table, given, answered, job, firstMarking}
 use Rattle.samples.specs.Job.{reboot, check, publish, rebooted, checked, at, tracking, journal, folded}
 
 -- a sample: its number, and what it says
@@ -55,11 +55,11 @@ samples =
     -- S4: (0,1,0) after S2: Ex {0,1}, Re empty, In {0,1,2}; finished
     ∷ (4, (given (theMove job rebooted check) ≡ (0, 0, checked)) × (isFinished checked ≡ true))
     -- S5: (1,1,1): 13
-    ∷ (5, given (theMove job firstMarking (entry 1 1 1)) ≡ (13, 0, firstMarking))
+    ∷ (5, given (theMove job firstMarking (entryOf 1 1 1)) ≡ (13, 0, firstMarking))
     -- S6: (1,1,0): 12
-    ∷ (6, given (theMove job firstMarking (entry 1 1 0)) ≡ (12, 0, firstMarking))
+    ∷ (6, given (theMove job firstMarking (entryOf 1 1 0)) ≡ (12, 0, firstMarking))
     -- S7: (2,0,0): 11
-    ∷ (7, given (theMove job firstMarking (entry 2 0 0)) ≡ (11, 0, firstMarking))
+    ∷ (7, given (theMove job firstMarking (entryOf 2 0 0)) ≡ (11, 0, firstMarking))
     -- S8: fold of reboot: NeedIn {0}, Done {0}, DueSet {1}, DueClear {0}, InClear {2}
     ∷ (8, theFold job (journal (reboot ∷ [])) ≡ folded (0 ∷ []) [] [] (0 ∷ []) (1 ∷ []) (0 ∷ []) [] (2 ∷ []))
     -- S9: reboot and check fold to NeedIn, Done and DueClear {0,1}, and InSet {2}

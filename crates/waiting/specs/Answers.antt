@@ -16,7 +16,7 @@ use Rattle.moves.specs.declared.Refusal.{Refusal}
 use Rattle.moves.specs.declared.Refusal.the-variants.{NotApplied}
 use Rattle.moves.specs.declared.Verdict.{Verdict}
 use Rattle.moves.specs.First.{Line, first, numberOf, waitingOf}
-use Rattle.moves.specs.Move.{noMarking, markingFits, numberOfMove, waitingOfMove}
+use Rattle.moves.specs.Move.{entryOf, noMarking, markingFits, numberOfMove, waitingOfMove}
 use Rattle.moves.specs.Given.{numbersBelow, holds, first-holds, first-late, clear-head, clear-tail, clear-front, clear-back}
 use Rattle.moves.specs.Inside.{Inside, fits-inside}
 use Rattle.rules.specs.Graph.{Graph, graphLines, graphVerdict}
@@ -24,7 +24,7 @@ use Rattle.rules.specs.Answers.{entryLines, markingLines, theMove}
 use Rattle.rules.specs.Entries.{refused-first}
 use Rattle.kept.specs.Keep.{theKept}
 use Rattle.journal.specs.declared.Ran.{Ran}
-use Rattle.journal.specs.Journal.{entryOf, entries}
+use Rattle.journal.specs.Journal.{entries}
 use Rattle.journal.specs.Run.{runFrom, lengthLines, runLines, ranOf, theRun, numberOfRun, waitingOfRun, indexOfRun, markingOfRun}
 use Rattle.runs.specs.Runs.{run-stops}
 use Rattle.records.specs.declared.Record.{Record}
