@@ -25,18 +25,18 @@ fn passes(held: u64, allows: u64, conditions: u64, m: Marking) -> bool
     (both != 0) & (awaited == 0)
 }
 
-// The steps that who holds these roles may take: one pass over the rows.
+// The steps that who holds these roles may take: one pass over the rows, from the last to the first. What is found is moved up by a step at
+// every row, and the row's own step is put below it, so that no row needs a branch or a shift of its own.
 fn steps_for(g: &Job, m: Marking, held: u64) -> u64
     requires { ⌜ graphVerdict (graphOf (now g)) ≡ Verdict.Clear ⌝ }
     ensures { λ r. ⌜ r ≡ stepsFor (graphOf (now (g .entry))) m held ⌝ }
 {
-    let n = g[0] as u8;
+    let mut s = g[0] as u8;
     let mut found = 0;
-    let mut s = 0;
-    while s < n {
+    while 0 < s {
+        s -= 1;
         let w = row_at(g, 0, s);
-        found = found | sets::single_if(passes(held, w.allows, w.conditions, m), s);
-        s += 1;
+        found = (found + found) + (passes(held, w.allows, w.conditions, m) as u64);
     }
     found & m.included
 }

@@ -2,7 +2,7 @@
 -- the same members are the same number. None has a bound that it does not need. Assumes nothing.
 use Prim.Native.Nat.{ℕ, zero, suc, _+_, _-_, _*_, _/_, _%_, _^_, _≤_, _<_, zero-le, suc-le-suc}
 use native.Mathlib.Nat.{not-suc-le-zero, mod-lt, div-one, two-pow-succ, lt-of-lt-of-le, lt-of-le-of-lt, le-of-suc-le-suc, div-eq-of-lt}
-use native.Mathlib.Nat.{zero-div, zero-mul, one-mul, div-lt-iff-lt-mul, le-trans, le-refl, add-zero}
+use native.Mathlib.Nat.{zero-div, one-mul, div-lt-iff-lt-mul, le-trans, le-refl, add-zero}
 use native.Mathlib.Numerals.{add-one}
 use native.Mathlib.Omega.{arith}
 use native.Mathlib.Decide.{decLt}
@@ -13,7 +13,6 @@ use lib.Bits.{bitXor, and-shr, or-shr, xor-shr, and-mod, or-mod, xor-mod, or-lt,
 use lib.Bits.{xor-zero-r}
 use lib.Count.{trailingZeros, under}
 use lib.Pow.{pow-pos, pow-mono, pow-lt, shr-shr, ones-lt, le-ones, lt-of-le-ones, shl-exact}
-use mir.Val.{boolByte}
 use borrow.Author.Tests.{lt-ltb, le-ltb, eq-eqb, ne-eqb, eqb-true, ltb-true, le-leb, leb-true}
 use Rattle.sets.specs.Sets.{has, single, union, meet, minus, empty, subset, within, full, scan, lowest, gather, every, those}
 use Rattle.sets.specs.Truth.{same-truth, and-intro, and-left, and-right, and-exchange, or-false, and-false, and-true, is-false}
@@ -154,11 +153,6 @@ has-full n s = bit-full n s
 -- the machine's `1 << s`
 pub shifted-one : (s : ℕ) → s < 64 → 1 * 2 ^ s % 2 ^ 64 ≡ single s
 shifted-one s h = shl-exact 1 s 64 (lit< tt) (let z : 1 + s ≤ 64 = omega arith in z) ∙ one-mul (2 ^ s)
-
--- a test shifted by s: the set with s alone, or the empty one
-pub shifted-test : (b : Bool) (s : ℕ) → s < 64 → boolByte b * 2 ^ s % 2 ^ 64 ≡ cond b (single s) 0
-shifted-test true s h = shifted-one s h
-shifted-test false s h = ap (λ (x : ℕ). x % 2 ^ 64) (zero-mul (2 ^ s))
 
 pub full-double : (s : ℕ) → single s + (single s - 1) ≡ full (s + 1)
 unfolding full

@@ -1,16 +1,18 @@
 -- The laws of tests and of sets over a range of numbers. Assumes nothing.
-use Prim.Native.Nat.{ℕ, zero, suc, _^_, _≤_, _<_}
-use native.Mathlib.Nat.{not-suc-le-zero, le-refl}
+use Prim.Native.Nat.{ℕ, zero, suc, _+_, _/_, _%_, _^_, _≤_, _<_}
+use native.Mathlib.Nat.{not-suc-le-zero, le-refl, div-one, div-eq-of-lt, div-le-self, lt-of-le-of-lt, lt-of-lt-of-le}
 use native.Mathlib.Omega.{arith}
 use native.Mathlib.Decide.{decLt}
 use mathlib.Core.Path.{_≡_, refl, sym, ap, ap₂, _∙_}
 use mathlib.Core.Bool.{Bool, true, false, not, _&&_, _||_, cond, true≢false, false≢true}
 use lib.Bits.{or-zero-r}
-use lib.Dec.{ltb}
-use borrow.Author.Tests.{eq-eqb}
+use lib.Dec.{eqb, ltb}
+use lib.Pow.{shr-shr, pow-mono}
+use mir.Val.{boolByte}
+use borrow.Author.Tests.{lt-ltb, le-ltb, eq-eqb, eqb-true, eqb-false}
 use Rattle.sets.specs.Sets.{has, single, union, meet, empty, lowest, gather, every, any, those}
 use Rattle.sets.specs.Truth.{same-truth, or-first, or-second, or-split, and-neither}
-use Rattle.sets.specs.Laws.{ext, has-union, has-meet, has-those, empty-members, empty-gather, lowest-has, lowest-below}
+use Rattle.sets.specs.Laws.{ext, has-union, has-meet, has-those, bit-lt, lt-of-members, empty-members, empty-gather, lowest-has, lowest-below}
 
 -- ---- a test holds somewhere in a range exactly if it holds at one of its numbers
 
@@ -113,6 +115,35 @@ gather-less (suc n) k f most none = go (gather-less n k f) (decLt n k)
         ap₂ union (fewer l none) (none n l) ∙ or-zero-r (gather k f)
 
 -- ---- the steps below n of which a test holds
+
+-- no other step is one of them
+pub those-lt : (n : ℕ) (p : ℕ → Bool) → those n p < 2 ^ n
+those-lt n p = lt-of-members n (those n p) (λ s h. has-those n p s ∙ ap (λ (b : Bool). b && p s) (le-ltb s n h))
+
+-- they are found from the highest down: those from s on, each counted from s, are those from s + 1 on moved up by one, and s if its test holds
+pub those-down : (n : ℕ) (p : ℕ → Bool) (s : ℕ) → s < n
+    → those n p / 2 ^ s ≡ (those n p / 2 ^ (s + 1) + those n p / 2 ^ (s + 1)) + boolByte (p s)
+unfolding has
+those-down n p s h =
+    let x = those n p / 2 ^ s in
+    let up : x / 2 ≡ those n p / 2 ^ (s + 1) = shr-shr (those n p) s 1 in
+    let low : x % 2 ≡ boolByte (p s) = digit (p s) (x % 2) (bit-lt (those n p) s)
+    (has-those n p s ∙ ap (λ (b : Bool). b && p s) (lt-ltb s n h)) in
+    omega arith
+  where
+    digit : (b : Bool) (d : ℕ) → d < 2 → eqb d 1 ≡ b → d ≡ boolByte b
+    digit true d l e = eqb-true d 1 e
+    digit false d l e = let z : d ≡ 1 → ⊥ = eqb-false d 1 e in omega arith
+
+-- and fit on the way whatever all of them fit
+pub those-room : (n w : ℕ) (p : ℕ → Bool) (s : ℕ) → n ≤ w → those n p / 2 ^ s < 2 ^ w
+those-room n w p s h = lt-of-le-of-lt (div-le-self (those n p) (2 ^ s)) (lt-of-lt-of-le (those-lt n p) (pow-mono h))
+
+pub those-start : (n : ℕ) (p : ℕ → Bool) → those n p / 2 ^ n ≡ 0
+those-start n p = div-eq-of-lt (those-lt n p)
+
+pub those-end : (n : ℕ) (p : ℕ → Bool) → those n p / 2 ^ 0 ≡ those n p
+those-end n p = div-one (those n p)
 
 pub those-same : (n : ℕ) (p q : ℕ → Bool) → ((s : ℕ) → s < n → p s ≡ q s) → those n p ≡ those n q
 unfolding gather

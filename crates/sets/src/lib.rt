@@ -1,6 +1,5 @@
 // Sets of steps, held in a `u64`: step s is bit s.
 ghost use mathlib.Core.Path.{_≡_};
-ghost use mathlib.Core.Bool.{cond};
 ghost use Prim.Native.Nat.{ℕ, _<_, _≤_};
 ghost use Rattle.sets.specs.Sets.{has, single, union, meet, minus, subset, within, full, lowest};
 
@@ -17,14 +16,6 @@ pub fn single(s: u8) -> u64
     ensures { λ r. ⌜ r ≡ single s ⌝ }
 {
     1 << s
-}
-
-// The set with s alone, if b; else the empty one. There is no branch.
-pub fn single_if(b: bool, s: u8) -> u64
-    requires { ⌜ s < 64 ⌝ }
-    ensures { λ r. ⌜ r ≡ cond b (single s) 0 ⌝ }
-{
-    (b as u64) << s
 }
 
 pub fn union(a: u64, b: u64) -> u64
