@@ -1,6 +1,7 @@
 // The steps that are not grey, on a graph with nothing against it.
 ghost use mathlib.Core.Path.{_≡_};
 ghost use Prim.Native.Nat.{_≤_, _<_};
+ghost use Rattle.sets.specs.Sets.{meet};
 ghost use Rattle.moves.specs.declared.Verdict.{Verdict};
 ghost use Rattle.rules.specs.Graph.{graphOf, graphVerdict};
 ghost use Rattle.greying.specs.Greying.{theChoice, theChoiceOfAll};
@@ -25,6 +26,13 @@ fn passes(held: u64, allows: u64, conditions: u64, m: Marking) -> bool
     (both != 0) & (awaited == 0)
 }
 
+// Of the steps that pass those that are included.
+fn not_excluded(found: u64, included: u64) -> u64
+    ensures { λ r. ⌜ r ≡ meet found included ⌝ }
+{
+    found & included
+}
+
 // The steps that who holds these roles may take: one pass over the rows, from the last to the first. What is found is moved up by a step at
 // every row, and the row's own step is put below it, so that no row needs a branch or a shift of its own.
 fn steps_for(g: &Job, m: Marking, held: u64) -> u64
@@ -38,7 +46,7 @@ fn steps_for(g: &Job, m: Marking, held: u64) -> u64
         let w = row_at(g, 0, s);
         found = (found + found) + (passes(held, w.allows, w.conditions, m) as u64);
     }
-    found & m.included
+    not_excluded(found, m.included)
 }
 
 // A marking and a person. Refusals 8, 11.

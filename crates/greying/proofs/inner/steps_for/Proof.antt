@@ -99,6 +99,9 @@ loop-less c = omega arith
 loop-again : tie.Need-loop-again Inv-loop μ-loop
 loop-again c = (omega arith, omega arith, found-more c)
 
+not-excluded-requires : tie.Need-not-excluded-requires Inv-loop μ-loop
+not-excluded-requires c κs = search needs
+
 returns : tie.Need-returns Inv-loop μ-loop
 unfolding stepsFor
 returns c =
@@ -107,7 +110,7 @@ returns c =
     let n = row (a .g .now) 0 in
     let q = stepPasses (graphOf (a .g .now)) (a .m) (a .held) in
     let none : loop .s ≡ 0 = omega arith in
-    ap (λ (x : ℕ). meet x (a .m .included)) (loop .inv .2 ∙ ap (λ (k : ℕ). those n q / 2 ^ k) none ∙ those-end n q)
+    c .not-excluded .ensures ∙ ap (λ (x : ℕ). meet x (a .m .included)) (loop .inv .2 ∙ ap (λ (k : ℕ). those n q / 2 ^ k) none ∙ those-end n q)
 
 pub steps-for-spec : {M : Type 1} → statement M
 steps-for-spec =
@@ -126,4 +129,5 @@ steps-for-spec =
     add-found-2
     loop-less
     loop-again
+    not-excluded-requires
     returns)
