@@ -1,18 +1,22 @@
 // The steps that are not grey, on a graph with nothing against it.
 ghost use mathlib.Core.Path.{_≡_};
-ghost use Prim.Native.Nat.{_≤_, _<_};
+ghost use Prim.Native.Nat.{_≤_};
+ghost use lib.ListN.{length};
 ghost use Rattle.sets.specs.Sets.{meet};
 ghost use Rattle.moves.specs.declared.Verdict.{Verdict};
 ghost use Rattle.rules.specs.Graph.{graphOf, graphVerdict};
 ghost use Rattle.greying.specs.Greying.{theChoice, theChoiceOfAll};
-ghost use Rattle.greying.specs.Rows.{rowPasses, stepsFor};
+ghost use Rattle.greying.specs.Rows.{rowPasses, rowsPassing, stepsFor};
 use crate::Choice;
 use moves::Marking;
 use moves::Refusal;
 use moves::inner::fits;
 use moves::inner::waits;
+use rules::ALLOWS;
+use rules::CONDITIONS;
 use rules::HOLDS;
 use rules::Job;
+use rules::RESPONSES;
 use rules::WORDS;
 use rules::inner::row_at;
 use tables::roles_named;
@@ -26,6 +30,21 @@ fn passes(held: u64, allows: u64, conditions: u64, m: Marking) -> bool
     (both != 0) & (awaited == 0)
 }
 
+// The steps below `count` whose rows let pass, from the last to the first: what is found is moved up by a step at every row, and the row's own
+// step is put below it, so that no row needs a branch or a shift of its own.
+fn passing<'a>(allows: &'a [u64], conditions: &'a [u64], count: usize, held: u64, m: Marking) -> u64
+    requires { ⌜ (count ≤ 64) × (count ≤ length (now allows)) × (count ≤ length (now conditions)) ⌝ }
+    ensures { λ r. ⌜ r ≡ rowsPassing (now (allows .entry)) (now (conditions .entry)) count held m ⌝ }
+{
+    let mut s = count;
+    let mut found = 0;
+    while 0 < s {
+        s -= 1;
+        found = (found + found) + (passes(held, allows[s], conditions[s], m) as u64);
+    }
+    found
+}
+
 // Of the steps that pass those that are included.
 fn not_excluded(found: u64, included: u64) -> u64
     ensures { λ r. ⌜ r ≡ meet found included ⌝ }
@@ -33,19 +52,14 @@ fn not_excluded(found: u64, included: u64) -> u64
     found & included
 }
 
-// The steps that who holds these roles may take: one pass over the rows, from the last to the first. What is found is moved up by a step at
-// every row, and the row's own step is put below it, so that no row needs a branch or a shift of its own.
+// The steps that who holds these roles may take.
 fn steps_for(g: &Job, m: Marking, held: u64) -> u64
     requires { ⌜ graphVerdict (graphOf (now g)) ≡ Verdict.Clear ⌝ }
     ensures { λ r. ⌜ r ≡ stepsFor (graphOf (now (g .entry))) m held ⌝ }
 {
-    let mut s = g[0] as u8;
-    let mut found = 0;
-    while 0 < s {
-        s -= 1;
-        let w = row_at(g, 0, s);
-        found = (found + found) + (passes(held, w.allows, w.conditions, m) as u64);
-    }
+    let n = g[0] as usize;
+    let w = &g[..];
+    let found = passing(&w[ALLOWS..HOLDS], &w[CONDITIONS..RESPONSES], n, held, m);
     not_excluded(found, m.included)
 }
 
