@@ -11,6 +11,14 @@ pub struct Asked {
     pub waiting: u64,
 }
 
+/// Of the question which steps are allowed, to a person or to someone: their set. With a number above 0 it is 0.
+#[repr(C)]
+#[derive(Clone, Copy, Default, PartialEq, Eq, Debug)]
+pub struct Allowed {
+    pub number: u64,
+    pub steps: u64,
+}
+
 /// Of the question whether the job is finished: 1 where it is.
 #[repr(C)]
 #[derive(Clone, Copy, Default, PartialEq, Eq, Debug)]

@@ -1,16 +1,22 @@
-//! The 19 calls as `ulzhartep.h` declares them: the one file of the crate that has to be believed about foreign code.
+//! The 21 calls as `ulzhartep.h` declares them: the one file of the crate that has to be believed about foreign code.
 //!
 //! Markings, entries and tracks go by value, a graph or a record as a pointer to it, bytes of any number as a pointer and their
 //! length. The calls keep none of what is lent, and write only to what is lent by `&mut` or `*mut`. A call is safe where no
 //! pointer is bare.
 
-use crate::{Asked, Ending, Entry, Graph, Kept, Lapped, Marking, Moved, Ran, Record, Track, Tracked, Walked, Written};
+use crate::{
+    Allowed, Asked, Ending, Entry, Graph, Kept, Lapped, Marking, Moved, Ran, Record, Track, Tracked, Walked, Written,
+};
 
 unsafe extern "C" {
     #[link_name = "ulz_check"]
     pub safe fn check(graph: &Graph) -> u64;
     #[link_name = "ulz_ask"]
     pub safe fn ask(graph: &Graph, marking: Marking, entry: Entry) -> Asked;
+    #[link_name = "ulz_allowed_to"]
+    pub safe fn allowed_to(graph: &Graph, marking: Marking, person: u64) -> Allowed;
+    #[link_name = "ulz_allowed_to_someone"]
+    pub safe fn allowed_to_someone(graph: &Graph, marking: Marking) -> Allowed;
     #[link_name = "ulz_take"]
     pub safe fn take(graph: &Graph, marking: Marking, entry: Entry) -> Moved;
     #[link_name = "ulz_finished"]

@@ -1,5 +1,5 @@
 use crate::refusal::refused;
-use crate::{border, Entry, Graph, Marking, Refusal, Track, Tracked};
+use crate::{border, Allowed, Entry, Graph, Marking, Refusal, Track, Tracked};
 
 /// Sheets.
 impl Graph {
@@ -31,6 +31,17 @@ impl Graph {
         refused(asked.number, asked.waiting)
     }
 
+    /// The set of all steps that the person may take, each in some role, see [`steps`](crate::steps); the others can
+    /// be greyed out. A number that is not below the count of people is nobody's, however large it is.
+    pub fn allowed_to(&self, marking: Marking, person: u64) -> Result<u64, Refusal> {
+        allowed(border::allowed_to(self, marking, person))
+    }
+
+    /// The set of all steps that some person may take.
+    pub fn allowed_to_someone(&self, marking: Marking) -> Result<u64, Refusal> {
+        allowed(border::allowed_to_someone(self, marking))
+    }
+
     /// Takes a step: asks, and if the entry is allowed gives the marking after. What [`ask`](Graph::ask) refuses is refused here,
     /// with the same refusal, and nothing else is.
     pub fn take(&self, marking: Marking, entry: Entry) -> Result<Marking, Refusal> {
@@ -51,6 +62,11 @@ impl Graph {
         refused(ending.number, 0)?;
         Ok(ending.finished == 1)
     }
+}
+
+fn allowed(answer: Allowed) -> Result<u64, Refusal> {
+    refused(answer.number, 0)?;
+    Ok(answer.steps)
 }
 
 /// The tracker.

@@ -28,7 +28,7 @@ mod record;
 mod refusal;
 mod state;
 
-pub use answers::{Asked, Ending, Kept, Lapped, Moved, Ran, Tracked, Walked, Written, ACCEPTED, STARVED};
+pub use answers::{Allowed, Asked, Ending, Kept, Lapped, Moved, Ran, Tracked, Walked, Written, ACCEPTED, STARVED};
 pub use graph::Graph;
 pub use journals::{apply, join, walk, LapRefused, Passed, Stopped, Verdict};
 pub use record::Record;

@@ -25,7 +25,7 @@ pub enum Refusal {
     NoRank,
     /// The record is not well-formed for so many steps.
     IllFormed,
-    /// The entry's person, step or role is beyond its count.
+    /// The entry's person, step or role is beyond its count, or a person who is asked for without an entry.
     Unknown,
     /// The entry's person lacks the role.
     NotHeld,

@@ -55,6 +55,24 @@ fn asked_and_refused() {
     assert_eq!(Graph::bare(0, 1, 1).ask(START, REBOOT), Err(Refusal::Counts));
 }
 
+/// All steps at once, each allowed in some role; and a person is a whole word.
+#[test]
+fn allowed() {
+    let (g, checked) = (job(), Marking::new(0b011, 0, 0b111));
+    assert_eq!([0, 1].map(|person| g.allowed_to(START, person)), [Ok(0b011), Ok(0b001)]);
+    assert_eq!([0, 1].map(|person| g.allowed_to(checked, person)), [Ok(0b011), Ok(0b101)]);
+    assert_eq!([START, REBOOTED, checked].map(|m| g.allowed_to_someone(m)), [Ok(0b011), Ok(0b011), Ok(0b111)]);
+    let nothing = Marking::default();
+    assert_eq!([g.allowed_to(nothing, 1), g.allowed_to_someone(nothing)], [Ok(0); 2]);
+    for person in [2, 16, 255, 256, 257, 1 << 32, u64::MAX] {
+        assert_eq!(g.allowed_to(checked, person), Err(Refusal::Unknown), "{person}");
+    }
+    let outside = Marking::new(8, 0, 0);
+    assert_eq!([g.allowed_to(outside, 2), g.allowed_to_someone(outside)], [Err(Refusal::Outside); 2]);
+    let none = Graph::bare(0, 1, 1);
+    assert_eq!([none.allowed_to(START, 1), none.allowed_to_someone(START)], [Err(Refusal::Counts); 2]);
+}
+
 /// Every call that can wait, where publishing waits for all three steps and then for all but the check.
 #[test]
 fn waiting() {
