@@ -6,6 +6,7 @@ mod dice;
 mod entries;
 pub mod folds;
 mod graphs;
+mod greying;
 pub mod jobs;
 pub mod journals;
 pub mod laps;
@@ -36,7 +37,7 @@ pub struct Case {
 /// Marking and entry are made for the whole graph and the damage comes last, so that several refusals hold at once and their
 /// order is tried.
 pub fn make(dice: &mut Dice) -> Case {
-    let (mut graph, mut marking) = job(dice);
+    let (mut graph, mut marking) = if dice.one_in(4) { greying::job(dice) } else { job(dice) };
     let entry = entries::aimed(dice, &mut graph, &mut marking);
     harm(dice, &mut graph, &mut marking);
     Case { graph, marking, entry }

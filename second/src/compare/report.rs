@@ -33,12 +33,14 @@ impl Report {
         self.sizes.entry(floor).or_default().insert(size);
     }
 
-    /// Counts a call's answer, and as one difference whatever was wrong with it.
+    /// Counts a call's answers, and as one difference whatever was wrong with them.
     pub fn count(&mut self, table: &Table, seen: &Seen, input: impl FnOnce() -> String) {
         let mut faults = seen.faults.clone();
-        match self.came.get_mut(table.name).and_then(|came| came.get_mut(&seen.kind)) {
-            Some(times) => *times += 1,
-            None => faults.push(format!("model: {}, which is no answer of this call", seen.kind)),
+        for kind in &seen.kinds {
+            match self.came.get_mut(table.name).and_then(|came| came.get_mut(kind)) {
+                Some(times) => *times += 1,
+                None => faults.push(format!("model: {kind}, which is no answer of this call")),
+            }
         }
         if faults.is_empty() {
             return;
@@ -52,7 +54,7 @@ impl Report {
 
     /// Prints the tables and says whether all is well.
     pub fn close(&self, floors: &[&dyn Play], cases: u64, full: u64) -> bool {
-        println!("{:12} {:>6}  {:32} {:>10}", "call", "number", "", "times");
+        println!("{:18} {:>6}  {:32} {:>10}", "call", "number", "", "times");
         let mut missing = Vec::new();
         for floor in floors {
             floor.tables().iter().for_each(|table| self.print(table, &mut missing));
@@ -74,7 +76,7 @@ impl Report {
         for (kind, words) in table.answers.iter().copied().flatten() {
             let times = self.came[table.name][kind];
             let number = kind % 256;
-            println!("{:12} {number:>6}  {words:32} {times:>10}", table.name);
+            println!("{:18} {number:>6}  {words:32} {times:>10}", table.name);
             if times == 0 {
                 missing.push(format!("{} {number} ({words})", table.name));
             }

@@ -27,15 +27,25 @@ impl<C: Debug> Debug for Input<C> {
     }
 }
 
-/// Which of the call's answers the model gives, and how the others differ from what it says.
+/// Which of the call's answers the model gives, one or more on an input, and how the others differ from what it says.
 pub struct Seen {
-    pub kind: u64,
+    pub kinds: Vec<u64>,
     pub faults: Vec<String>,
 }
 
 impl Seen {
     pub fn new(kind: u64) -> Self {
-        Seen { kind, faults: Vec::new() }
+        Seen { kinds: vec![kind], faults: Vec::new() }
+    }
+
+    /// Of more than one call on an input: with each go the words by which its faults are told.
+    pub fn all(each: impl Iterator<Item = (String, Seen)>) -> Self {
+        let mut all = Seen { kinds: Vec::new(), faults: Vec::new() };
+        for (by, seen) in each {
+            all.kinds.extend(seen.kinds);
+            all.faults.extend(seen.faults.iter().map(|fault| format!("{by}: {fault}")));
+        }
+        all
     }
 
     pub fn expect<T: PartialEq + Debug + ?Sized>(&mut self, who: &str, right: &T, given: &T) {

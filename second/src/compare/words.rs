@@ -1,6 +1,6 @@
 //! The answers in words, and how answers are told apart.
 
-use second::data::{Ran, Tracked};
+use second::data::{Allowed, Ran, Tracked};
 
 /// An answer that a call can give: below 256 it is its number; answers of one number that are to be told apart differ by 256
 /// and its multiples.
@@ -33,6 +33,18 @@ pub fn by_flag(tracked: Tracked) -> u64 {
     by_crowd(tracked.number, tracked.waiting) + 256 * flag
 }
 
+/// By its number, and when answered by how many of the graph's steps are in the set.
+pub fn by_share(allowed: Allowed, steps: u64) -> u64 {
+    let share = match allowed.steps {
+        0 => 0,
+        set if u64::from(set.count_ones()) < steps => 256,
+        _ => 512,
+    };
+    allowed.number + share
+}
+
+pub const SHARES: &[Kind] = &[(0, "no step"), (256, "some steps"), (512, "every step")];
+
 pub const FLAGS: &[Kind] = &[(0, "flag down"), (256, "flag up")];
 
 pub const COUNTS: Kind = (2, "counts out of range");
@@ -48,7 +60,7 @@ pub const ROOM: Kind = (18, "room too short");
 /// Of a graph.
 pub const GRAPH: &[Kind] = &[COUNTS, BEYOND, BOTH];
 
-const UNKNOWN: Kind = (11, "unknown person, step or role");
+pub const UNKNOWN: Kind = (11, "unknown person, step or role");
 const NOT_HELD: Kind = (12, "person does not hold the role");
 const NOT_ON_STEP: Kind = (13, "step does not have the role");
 const EXCLUDED: Kind = (14, "step not included");

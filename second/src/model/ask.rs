@@ -13,22 +13,25 @@ pub fn ask(g: &Graph, m: data::Marking, entry: Entry) -> Asked {
 /// The same where graph and marking are as they should be: only the entry is looked at.
 pub fn ask_entry(g: &Graph, m: &Marking, entry: Entry) -> Asked {
     let [person, step, role] = [entry.person, entry.step, entry.role].map(u64::from);
-    let waits_for = waiting(g, m, step);
     let numbers = [
         (11, person >= g.people || step >= g.steps || role >= g.roles),
         (12, !g.holds.contains(&(person, role))),
         (13, !g.allows.contains(&(step, role))),
         (14, !m.included.contains(&step)),
-        (15, !waits_for.is_empty()),
     ];
     match lowest(&numbers) {
-        15 => Asked { number: 15, waiting: stored(&waits_for) },
+        0 => ask_waiting(&waiting(g, m, step)),
         number => Asked { number, waiting: 0 },
     }
 }
 
+/// The last number that an entry can have goes with what it waits for.
+fn ask_waiting(waits_for: &Set) -> Asked {
+    Asked { number: lowest(&[(15, !waits_for.is_empty())]), waiting: stored(waits_for) }
+}
+
 /// The steps with a condition arrow to this one that are included and have not been done.
 pub fn waiting(g: &Graph, m: &Marking, step: u64) -> Set {
-    let conditions = (0..g.steps).filter(|&a| g.conditions.contains(&(a, step)));
-    conditions.filter(|a| m.included.contains(a) && !m.done.contains(a)).collect()
+    let open = m.included.difference(&m.done).copied();
+    open.filter(|&a| g.conditions.contains(&(a, step))).collect()
 }

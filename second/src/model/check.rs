@@ -26,5 +26,5 @@ fn names_beyond(g: &Graph) -> bool {
 }
 
 pub fn includes_and_excludes(g: &Graph) -> bool {
-    g.includes.iter().any(|pair| g.excludes.contains(pair))
+    !g.includes.is_disjoint(&g.excludes)
 }

@@ -4,6 +4,7 @@
 //! A call takes the model's own graph, so that one is read once for many calls, and otherwise what the border takes. It answers
 //! what the border answers; where that is written to lent memory, it gives the content, or the number of the refusal.
 
+mod allowed;
 mod ask;
 mod check;
 mod finished;
@@ -18,6 +19,7 @@ mod take;
 mod track;
 mod walk;
 
+pub use allowed::{allowed_to, allowed_to_someone};
 pub use ask::{ask, ask_entry, waiting};
 pub use check::check;
 pub use finished::finished;

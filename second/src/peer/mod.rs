@@ -1,6 +1,7 @@
 //! The same calls as they would be written for speed in safe Rust: sets are words, a refusal is an early return. They take and
 //! answer what crosses the border.
 
+mod allowed;
 mod ask;
 mod check;
 mod finished;
@@ -14,6 +15,7 @@ mod take;
 mod track;
 mod walk;
 
+pub use allowed::{allowed_to, allowed_to_someone};
 pub use ask::ask;
 pub use check::check;
 pub use finished::finished;

@@ -1,6 +1,7 @@
 //! What both bodies must do: the samples S1 to S13, the slips that were made before, and the same answers as each other.
 
 mod alike;
+mod allowed;
 mod asking;
 mod findings;
 mod journals;
@@ -12,7 +13,7 @@ mod sheets;
 mod sizes;
 mod tracker;
 
-use crate::data::{Asked, Ending, Entry, Graph, Kept, Lapped, Marking, Moved, Ran, Track, Tracked};
+use crate::data::{Allowed, Asked, Ending, Entry, Graph, Kept, Lapped, Marking, Moved, Ran, Track, Tracked};
 use crate::{model, peer};
 use std::collections::BTreeSet;
 
@@ -57,6 +58,14 @@ impl Both {
 
     fn ask(&self, m: Marking, e: Entry) -> Asked {
         alike(model::ask(&self.plain, m, e), peer::ask(&self.graph, m, e))
+    }
+
+    fn allowed_to(&self, m: Marking, person: u64) -> Allowed {
+        alike(model::allowed_to(&self.plain, m, person), peer::allowed_to(&self.graph, m, person))
+    }
+
+    fn allowed_to_someone(&self, m: Marking) -> Allowed {
+        alike(model::allowed_to_someone(&self.plain, m), peer::allowed_to_someone(&self.graph, m))
     }
 
     /// Is refused as the question is, and is kept as it is moved.

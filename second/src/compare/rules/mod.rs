@@ -1,5 +1,7 @@
-//! Graphs, markings, asking for a step and taking it.
+//! Graphs, markings, asking for a step or for all steps, and taking one.
 
+mod allowed_to;
+mod allowed_to_someone;
 mod ask;
 mod check;
 mod finished;
@@ -17,5 +19,13 @@ pub const FLOOR: Floor<Input> = Floor {
     make: |dice| Input::new(cases::make(dice), |case| &case.graph),
     full: None,
     size: |input| input.size,
-    calls: &[check::CALL, ask::CALL, take::CALL, finished::CALL, keep::CALL],
+    calls: &[
+        check::CALL,
+        ask::CALL,
+        allowed_to::CALL,
+        allowed_to_someone::CALL,
+        take::CALL,
+        finished::CALL,
+        keep::CALL,
+    ],
 };

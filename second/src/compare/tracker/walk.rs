@@ -34,7 +34,7 @@ fn run(input: &Input) -> Seen {
         at = right.track;
         flags.push(at.flag);
     }
-    seen.kind = 256 * (u64::from(flags.contains(&1)) + u64::from(!flags.contains(&0)));
+    seen.kinds = vec![256 * (u64::from(flags.contains(&1)) + u64::from(!flags.contains(&0)))];
     seen
 }
 
