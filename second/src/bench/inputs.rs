@@ -3,6 +3,7 @@
 
 use second::cases::{self, Case, Density, Dice};
 use second::data::{Entry, Graph, Marking};
+use second::peer;
 
 const GRAPHS: u64 = 8;
 
@@ -37,6 +38,26 @@ pub fn of_steps(steps: usize, bend: Bend) -> Vec<Case> {
             Case { graph, marking, entry }
         })
         .collect()
+}
+
+/// Half of the steps wait for one that is not done, some are excluded, and of those that someone may take the entry's
+/// person may take some: no row can be guessed from those before it.
+pub fn greying(steps: usize) -> Vec<Case> {
+    let case = |index| {
+        let mut dice = Dice::new(64, index);
+        let [few, half, most] = [Density::Thin, Density::Half, Density::Dense];
+        let graph = cases::sized(&mut dice, [steps, 16, 16], [few, few, half, most, most, most]);
+        let (all, open) = (u64::MAX >> (64 - steps), 1 << dice.below(steps));
+        let marking = Marking::new(all & !open, dice.word() & all, dice.set(most) & all | open);
+        let someone = peer::allowed_to_someone(&graph, marking).steps;
+        let may_some = |person: &u8| {
+            let steps = peer::allowed_to(&graph, marking, (*person).into()).steps;
+            steps != 0 && steps != someone && someone != marking.included
+        };
+        let person = (0..16).find(may_some).expect("one who may take some steps, and not all that others may");
+        Case { graph, marking, entry: Entry { person, ..Entry::default() } }
+    };
+    (0..GRAPHS).map(case).collect()
 }
 
 fn dense(dice: &mut Dice, steps: usize) -> Graph {

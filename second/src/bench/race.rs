@@ -37,7 +37,7 @@ fn each<I, O, A>(inputs: &[I], lent: &mut O, call: impl Fn(&I, &mut O) -> A) {
 }
 
 pub fn print(name: &str, ours: f64, other: f64) {
-    println!("{name:20} {ours:12.1} {other:12.1} {:8.3}", ours / other);
+    println!("{name:22} {ours:12.1} {other:12.1} {:8.3}", ours / other);
 }
 
 /// The nanoseconds that each of the two takes, the least of many rounds; or else the instructions.
