@@ -1,4 +1,4 @@
-//! Which entries are asked for and taken after a journal.
+//! Which entries are asked for and taken after a journal, and which people are asked for.
 
 use super::call::{Call, Journal};
 use crate::data::{Entry, Graph, Marking, Ran};
@@ -57,6 +57,17 @@ fn all(g: &Graph) -> impl Iterator<Item = Entry> {
 
 fn numbers(Entry { person, step, role }: Entry) -> Numbers {
     [person, step, role].map(u64::from)
+}
+
+/// One person after the other, and each time one who is not there; where the sheet is refused anyone, once in a while.
+pub fn people(sheet: &[u8], turn: usize) -> Vec<u64> {
+    let mut graph = Graph::bare(0, 0, 0);
+    if peer::sheet::read(sheet, &mut graph, &mut Marking::default()) != 0 {
+        return vec![0; turn.is_multiple_of(4).into()];
+    }
+    let known = turn as u64 % graph.people;
+    let beyond = [graph.people, 255, 256, 256 + known, (1 << 32) + known, u64::MAX];
+    vec![known, beyond[turn % beyond.len()]]
 }
 
 /// One of the three is unknown: by one, by a byte, or by so much that what is left in a byte is known.

@@ -1,4 +1,4 @@
-//! Entries of the sample job after journals of every kind, asked for and taken.
+//! The sample job after journals of every kind: entries, asked for and taken, and what people may take.
 
 use super::{
     asking::{named, taken, Numbers},
@@ -35,6 +35,9 @@ const ENTRIES: [Numbers; 16] = [
 /// One is allowed after every journal that runs through, and the others are not.
 const FEW: [Numbers; 3] = [[0, 0, 0], [1, 2, 1], [256, 0, 0]];
 
+/// Both who are there, the first who is not, and others whose lowest byte or lowest 32 bits would be known.
+const PEOPLE: [u64; 9] = [0, 1, 2, 255, 256, 257, 300, 1 << 32, u64::MAX];
+
 /// No number, or one that is spelt oddly or too long.
 const WORDS: [&str; 9] = ["x", "0x0", "+0", "1.5", "0 ", "", "000", "18446744073709551616", "99999999999999999999"];
 
@@ -53,6 +56,7 @@ pub fn play(folder: &Path, report: &mut Report) -> io::Result<()> {
     for journal in ["empty", "refused", "torn", "full"] {
         job.both(report, journal, &FEW[..1], Some("beyond"))?;
     }
+    job.people(report)?;
     job.words(report)?;
     job.no_journals(report)
 }
@@ -88,13 +92,38 @@ impl Job {
     fn both(&self, report: &mut Report, journal: &str, entries: &[Numbers], from: Option<&str>) -> io::Result<()> {
         let (file, own) = (self.0.join(journal), format!("{journal}.journal"));
         let before = fs::read(&file).ok();
-        let with_from = |call: Call| match from {
+        for entry in entries {
+            report.ask(self.with_from(named(self.call("ask").word(&file), *entry), from))?;
+            report.ask(self.with_from(taken(self.call("take"), &own, before.as_deref(), *entry), from))?;
+        }
+        Ok(())
+    }
+
+    fn with_from(&self, call: Call, from: Option<&str>) -> Call {
+        match from {
             Some(marking) => call.word("--from").word(self.0.join(marking)),
             None => call,
-        };
-        for entry in entries {
-            report.ask(with_from(named(self.call("ask").word(&file), *entry)))?;
-            report.ask(with_from(taken(self.call("take"), &own, before.as_deref(), *entry)))?;
+        }
+    }
+
+    /// Nothing is added to a journal, so that a full one is answered too.
+    fn people(&self, report: &mut Report) -> io::Result<()> {
+        for (journal, from, people) in [
+            ("empty", None, &PEOPLE[..]),
+            ("reboot", None, &PEOPLE),
+            ("none", None, &PEOPLE[..1]),
+            ("refused", None, &PEOPLE[1..3]),
+            ("torn", None, &PEOPLE[1..3]),
+            ("full", None, &PEOPLE[1..3]),
+            ("long", None, &PEOPLE[1..3]),
+            ("empty", Some("rebooted"), &PEOPLE[..3]),
+            ("empty", Some("beyond"), &PEOPLE[1..3]),
+            ("torn", Some("beyond"), &PEOPLE[1..3]),
+        ] {
+            for person in people {
+                let call = self.call("may").word(self.0.join(journal)).word(person.to_string());
+                report.ask(self.with_from(call, from))?;
+            }
         }
         Ok(())
     }
@@ -109,6 +138,7 @@ impl Job {
                     numbers.fold(self.call(command).word(self.0.join(journal)), |call, number| call.word(number)),
                 )?;
             }
+            report.ask(self.call("may").word(self.0.join("reboot")).word(word))?;
         }
         Ok(())
     }

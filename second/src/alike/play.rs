@@ -1,7 +1,7 @@
 //! Every command over a job: over each of its files, and over pairs of journals.
 
 use super::{
-    asking::{choices, marking, named, taken},
+    asking::{choices, marking, named, people, taken},
     call::Call,
     jobs::{File, Job},
     report::{Came, Report},
@@ -59,7 +59,8 @@ impl Play<'_> {
         self.entries(report, i, journal)
     }
 
-    /// Entries after the journal, asked for and taken, the latter after a copy of it; after one journal of a job from a marking.
+    /// Entries after the journal, asked for and taken, the latter after a copy of it, and what people may take there;
+    /// after one journal of a job from a marking.
     fn entries(&self, report: &mut Report, i: usize, journal: &File) -> io::Result<()> {
         let turn = 4 * self.index + i;
         let from = self.job.markings.first().filter(|_| i == self.index % 4);
@@ -79,6 +80,9 @@ impl Play<'_> {
                 Some(&before),
                 entry,
             )))?;
+        }
+        for person in people(&sheet, turn) {
+            report.ask(with_from(self.call("may").word(&journal.path).word(person.to_string())))?;
         }
         Ok(())
     }

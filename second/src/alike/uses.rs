@@ -12,11 +12,12 @@ use std::os::unix::ffi::OsStrExt;
 use std::path::{Path, PathBuf};
 
 /// What each command takes; a capital letter stands for a file of the job.
-const USES: [&str; 17] = [
+const USES: [&str; 18] = [
     "check S",
     "show S",
     "write S OUT",
     "may S J",
+    "may S J 0",
     "ask S J 0 0 0",
     "take S J 0 0 0",
     "run S J OUT",

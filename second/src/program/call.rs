@@ -81,7 +81,7 @@ fn named(name: &OsStr) -> Result<&'static Command, Vec<u8>> {
 }
 
 fn given(operands: &Operands, from: Option<&OsStr>) -> Result<Given, Vec<u8>> {
-    let entry = entry(&operands.entry)?;
+    let numbers = numbers(&operands.entry)?;
     if operands.added_to.is_some_and(|name| name == "-") {
         return Err(b"-: the journal is a file, and has to be named".to_vec());
     }
@@ -93,18 +93,22 @@ fn given(operands: &Operands, from: Option<&OsStr>) -> Result<Given, Vec<u8>> {
     }
     let read = operands.inputs.iter().map(|(kind, name)| input(kind, name));
     let files = read.chain(operands.added_to.map(files::read_if_there)).collect::<Result<_, _>>()?;
-    Ok(Given { n: operands.n, entry, files, from: from.map(|name| input("MARKING", name)).transpose()? })
+    let from = from.map(|name| input("MARKING", name)).transpose()?;
+    Ok(Given { n: operands.n, entry: entry(&numbers), person: numbers.first().copied(), files, from })
 }
 
-/// Of three words, or of none where the command takes no entry.
-fn entry(words: &[&OsStr]) -> Result<AnyEntry, Vec<u8>> {
+/// Of the words of an entry, or of its person alone.
+fn numbers(words: &[&OsStr]) -> Result<Vec<u64>, Vec<u8>> {
     let wrong = b": a person, step or role is a number, digits 0 to 9 alone";
-    let numbers = words.iter().map(|word| number(word).ok_or_else(|| [word.as_bytes(), wrong].concat()));
-    let numbers: Vec<u64> = numbers.collect::<Result<_, _>>()?;
-    Ok(match numbers[..] {
+    words.iter().map(|word| number(word).ok_or_else(|| [word.as_bytes(), wrong].concat())).collect()
+}
+
+/// Where the command takes none, it is any.
+fn entry(numbers: &[u64]) -> AnyEntry {
+    match *numbers {
         [person, step, role] => AnyEntry { person, step, role },
         _ => AnyEntry::default(),
-    })
+    }
 }
 
 fn input(kind: &str, name: &OsStr) -> Result<Input, Vec<u8>> {

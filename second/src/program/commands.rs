@@ -1,8 +1,9 @@
-use super::{asking, journals, markings, records, sheets, Given, Reply};
+use super::{asking, journals, markings, may, records, sheets, Given, Reply};
 
 pub struct Command {
     pub name: &'static str,
-    /// N is a number, PERSON, STEP and ROLE are an entry, OUT is a file that is written; the others are files that are read.
+    /// N is a number, PERSON, STEP and ROLE are an entry, OUT is a file that is written; the others are files that are
+    /// read. What stands in brackets may be left out.
     pub takes: &'static str,
     /// Besides --force, which goes with OUT.
     pub options: &'static [&'static str],
@@ -56,7 +57,13 @@ pub static COMMANDS: [Command; 17] = [
     command("check", "SHEET", &[], "is the sheet one?", sheets::check),
     command("show", "SHEET", &[], "what the sheet holds", sheets::show),
     command("write", "SHEET OUT", &[], "the sheet, read and written again", sheets::write),
-    command("may", "SHEET JOURNAL", &["--from"], "who may take which step after the journal", journals::may),
+    command(
+        "may",
+        "SHEET JOURNAL [PERSON]",
+        &["--from"],
+        "who may take which step after the journal, or which PERSON may",
+        may::may,
+    ),
     command("ask", ENTRY, &["--from"], "is the entry allowed after the journal?", asking::ask),
     command("take", ENTRY, &["--from"], "the same, and an allowed entry is added to the journal", asking::take),
     command("run", "SHEET JOURNAL [OUT]", &["--from"], "where the journal leads", journals::run),

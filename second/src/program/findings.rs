@@ -82,13 +82,22 @@ pub fn marking(m: data::Marking, steps: u64) -> Option<Finding> {
     marking_sets([m.done, m.due, m.included], steps, "").err()
 }
 
+/// Number 11 of a person without an entry.
+pub fn person(g: &Graph, person: u64) -> Option<Finding> {
+    known_person(g, person).err()
+}
+
+fn known_person(g: &Graph, person: u64) -> Look {
+    see(person < g.people, format_args!("person {person}"), all("people", g.people))
+}
+
 /// Why an entry is not allowed at a marking, with a number from 11 to 15.
 pub fn entry(g: &Graph, m: &Marking, entry: impl Into<AnyEntry>) -> Option<Finding> {
     not_allowed(g, m, entry.into()).err()
 }
 
 fn not_allowed(g: &Graph, m: &Marking, AnyEntry { person, step, role }: AnyEntry) -> Look {
-    see(person < g.people, format_args!("person {person}"), all("people", g.people))?;
+    known_person(g, person)?;
     see(step < g.steps, format_args!("step {step}"), all("steps", g.steps))?;
     see(role < g.roles, format_args!("role {role}"), all("roles", g.roles))?;
     let among = |whose: &str, roles: BTreeSet<u64>| {

@@ -2,13 +2,13 @@ use super::{
     entries::AnyEntry,
     files::Input,
     findings,
-    lines::{flag, rank_and_flag, set, Lines},
+    lines::{flag, rank_and_flag, Lines},
     markings::stored,
     sheets::read,
     Answer, Given, Reply,
 };
-use crate::data::{self, Asked, Entry, Lapped, Ran, Tracked, ACCEPTED};
-use crate::model::{self, members, Graph, Marking};
+use crate::data::{self, Entry, Lapped, Ran, Tracked, ACCEPTED};
+use crate::model::{self, Graph, Marking};
 
 pub fn run(given: &Given) -> Reply {
     let [sheet, journal] = given.files();
@@ -19,7 +19,7 @@ pub fn run(given: &Given) -> Reply {
 }
 
 /// The graph, and the marking to start from. 7 comes before 8: where a journal will be refused the marking is any.
-fn begun(given: &Given, sheet: &Input, journals: &[&Input]) -> Result<(Graph, data::Marking), Lines> {
+pub fn begun(given: &Given, sheet: &Input, journals: &[&Input]) -> Result<(Graph, data::Marking), Lines> {
     let (g, first) = read(sheet)?;
     if journals.iter().any(|journal| findings::journal(journal).is_some()) {
         return Ok((g, first.write()));
@@ -75,32 +75,6 @@ pub fn told(g: &Graph, ran: Ran, journal: &Input) -> Result<(Lines, Marking), Li
 fn entry(journal: &[u8], index: u64) -> Entry {
     let bytes = &journal[3 * index as usize..];
     Entry { person: bytes[0], step: bytes[1], role: bytes[2] }
-}
-
-pub fn may(given: &Given) -> Reply {
-    let [sheet, journal] = given.files();
-    let (g, start) = begun(given, sheet, &[journal])?;
-    let (lines, end) = told(&g, model::run(&g, start, journal), journal)?;
-    let lines = (0..g.steps).fold(lines, |lines, step| may_take(lines, &g, &end, step));
-    Ok(Answer::new(lines.ending(&end)))
-}
-
-/// Everyone is asked in every role. Where all are refused, the highest number is the one that the best suited are refused with.
-fn may_take(lines: Lines, g: &Graph, m: &Marking, step: u64) -> Lines {
-    let everyone = (0..g.people).flat_map(|person| (0..g.roles).map(move |role| AnyEntry { person, step, role }));
-    let asked = everyone.map(|entry| (entry, model::ask_entry(g, m, entry.stored())));
-    let (allowed, refused): (Vec<_>, Vec<_>) = asked.partition(|(_, asked)| asked.number == 0);
-    if allowed.is_empty() {
-        let why = match refused.iter().map(|(_, asked)| *asked).max_by_key(|asked| asked.number) {
-            Some(Asked { number: 15, waiting }) => format!("waits for {}", set(&members(waiting))),
-            Some(Asked { number: 14, .. }) => "not included".into(),
-            _ => "nobody holds a role that it has".into(),
-        };
-        return lines.say("blocked", format_args!("step {step}, {why}"));
-    }
-    allowed.iter().fold(lines, |lines, (AnyEntry { person, role, .. }, _)| {
-        lines.say("may", format_args!("step {step}, person {person}, role {role}"))
-    })
 }
 
 pub fn track(given: &Given) -> Reply {

@@ -11,6 +11,7 @@ mod help;
 mod journals;
 mod lines;
 mod markings;
+mod may;
 mod never;
 mod records;
 mod refusals;
@@ -45,10 +46,11 @@ impl Answer {
     }
 }
 
-/// What a command is given: a number, an entry, files that were read, and the marking to start from.
+/// What a command is given: a number, an entry or a person alone, files that were read, and the marking to start from.
 struct Given {
     n: u64,
     entry: AnyEntry,
+    person: Option<u64>,
     files: Vec<Input>,
     from: Option<Input>,
 }

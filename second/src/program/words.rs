@@ -37,7 +37,8 @@ pub fn sorted(words: &[OsString]) -> Result<Words<'_>, Vec<u8>> {
     Ok(sorted)
 }
 
-/// The operands behind the command: a number, the words of an entry, files to be read, and a file to be written or added to.
+/// The operands behind the command: a number, the words of an entry or of a person alone, files to be read, and a file
+/// to be written or added to.
 #[derive(Default)]
 pub struct Operands<'a> {
     pub n: u64,
@@ -50,13 +51,13 @@ pub struct Operands<'a> {
 /// Nothing where they are not what the command takes.
 pub fn operands<'a>(command: &Command, words: &Words<'a>) -> Option<Operands<'a>> {
     let takes: Vec<&'static str> = command.takes.split(' ').collect();
-    let needed = takes.iter().filter(|kind| **kind != "[OUT]").count();
+    let needed = takes.iter().filter(|kind| !kind.starts_with('[')).count();
     let given = &words.operands[1..];
     let mut operands = Operands::default();
     for (kind, word) in takes.iter().zip(given) {
         match *kind {
             "N" => operands.n = number(word)?,
-            "PERSON" | "STEP" | "ROLE" => operands.entry.push(word),
+            "PERSON" | "[PERSON]" | "STEP" | "ROLE" => operands.entry.push(word),
             "OUT" | "[OUT]" => operands.out = Some(word),
             "JOURNAL" if command.adds() => operands.added_to = Some(word),
             kind => operands.inputs.push((kind, word)),

@@ -6,6 +6,7 @@ mod asking;
 mod findings;
 mod journals;
 mod laps;
+mod may;
 mod program;
 mod records;
 mod rules;
