@@ -1,14 +1,14 @@
 -- What the sets say of asking, and with it of Definitions 4 and 5: a step is in a set exactly if an entry that takes it is allowed.
 -- Assumes nothing.
 use Prim.Native.Nat.{ℕ}
-use mathlib.Core.Path.{_≡_, refl, sym, ap, _∙_, subst}
+use mathlib.Core.Path.{_≡_, refl, sym, ap, _∙_}
 use mathlib.Core.Logic.{_↔_}
 use mathlib.Core.List.{_++_}
-use mathlib.Core.Bool.{Bool, true, false, _&&_, false≢true}
+use mathlib.Core.Bool.{true, false≢true}
 use native.Mathlib.Omega.{arith}
 use lib.Dec.{ltb}
 use borrow.Author.Tests.{lt-ltb}
-use Rattle.sets.specs.Sets.{has, any, those}
+use Rattle.sets.specs.Sets.{has, those}
 use Rattle.sets.specs.Truth.{and-intro, and-right}
 use Rattle.sets.specs.Laws.{has-those}
 use Rattle.sets.specs.Ranges.{any-at, any-of}
@@ -23,7 +23,7 @@ use Rattle.rules.specs.Entries.{Named, known-named}
 use Rattle.rules.specs.Paper.{Ready, Allowed, asked-allowed, allowed-asked}
 use Rattle.greying.specs.declared.Choice.{Choice}
 use Rattle.greying.specs.Greying.{granted, allowedTo, allowedToSomeone, choiceLines, choiceOf, theChoice, theChoiceOfAll}
-use Rattle.greying.specs.Greying.{numberOfChoice, stepsOfChoice}
+use Rattle.greying.specs.Greying.{numberOfChoice}
 
 -- ---- an entry, and the roles and people that there are
 

@@ -1,12 +1,12 @@
 -- What is found row by row is what is asked for entry by entry: a step has a role in common with a person exactly if in one of the roles
 -- both tests of Definition 5 hold; the other two tests of an entry do not depend on the role. Assumes nothing.
-use Prim.Native.Nat.{ℕ, _<_, _≤_}
-use mathlib.Core.Path.{_≡_, refl, sym, ap, ap₂, _∙_}
-use mathlib.Core.List.{[], _∷_, _++_}
-use mathlib.Core.Bool.{Bool, true, false, not, _&&_, cond}
+use Prim.Native.Nat.{ℕ, _<_}
+use mathlib.Core.Path.{_≡_, refl, sym, ap, _∙_}
+use mathlib.Core.List.{List, [], _∷_, _++_}
+use mathlib.Core.Bool.{Bool, true, false, not, _&&_}
 use lib.Dec.{ltb}
-use borrow.Author.Tests.{lt-ltb, not-false}
-use Rattle.sets.specs.Sets.{has, meet, empty, gather, any, those}
+use borrow.Author.Tests.{lt-ltb}
+use Rattle.sets.specs.Sets.{has, meet, empty, gather, those}
 use Rattle.sets.specs.Truth.{and-intro}
 use Rattle.sets.specs.Laws.{has-meet, meet-lt}
 use Rattle.sets.specs.Ranges.{any-same, any-and, any-member, any-meets, gather-less, those-same, those-meet}
@@ -15,18 +15,16 @@ use Rattle.moves.specs.declared.Entry.{Entry}
 use Rattle.moves.specs.declared.Refusal.{Refusal}
 use Rattle.moves.specs.declared.Refusal.the-variants.{Outside, Unknown, NotHeld, NotOnStep, Excluded, Waits}
 use Rattle.moves.specs.declared.Verdict.{Verdict}
-use Rattle.moves.specs.First.{first}
+use Rattle.moves.specs.First.{Line, first}
 use Rattle.moves.specs.Move.{entryOf, askedOf, markingFits, waitsFor}
-use Rattle.moves.specs.Given.{first-clear, first-refused, clear-head, clear-tail}
-use Rattle.tables.specs.Tables.{row, keeps}
-use Rattle.tables.specs.Laws.{keeps-gone}
-use Rattle.rules.specs.Graph.{Graph, graphLines, graphVerdict, setsFit, conditionsOf, rolesOf, rolesHeld}
+use Rattle.moves.specs.Given.{first-clear, first-refused}
+use Rattle.rules.specs.Graph.{Graph, graphLines, graphVerdict, conditionsOf, rolesOf, rolesHeld}
 use Rattle.rules.specs.Answers.{theAsked, entryKnown, markingLines}
 use Rattle.rules.specs.Laws.{asked-clear, on-inside, entry-known, clear-counts}
-use Rattle.rules.specs.Sound.{Sound, clear-sound}
+use Rattle.rules.specs.Sound.{clear-sound}
 use Rattle.greying.specs.declared.Choice.{Choice}
 use Rattle.greying.specs.Greying.{granted, allowedTo, allowedToSomeone, personLines, choiceOf, theChoice, theChoiceOfAll}
-use Rattle.greying.specs.Rows.{rowPasses, stepPasses, stepsFor}
+use Rattle.greying.specs.Rows.{stepPasses, stepsFor}
 
 -- ---- one entry, asked all at once
 
@@ -105,48 +103,48 @@ module _ (g : Graph) (m : Marking) (clear : graphVerdict g ≡ Verdict.Clear) (f
 
 -- ---- the answers, by what is found of the graph, the marking and the person
 
-module _ (g : Graph) (m : Marking) (p : ℕ) where
-  pub choice-refused : (r : Refusal) → graphVerdict g ≡ Verdict.Refused r → theChoice g m p ≡ Choice.Refused r
-  unfolding theChoice choiceOf
-  choice-refused r q = ap (λ (v : Verdict). choiceOf v (those (g .steps) (allowedTo g m p)))
-      (first-refused (graphLines g) (markingLines g m ++ personLines g p) r q)
+module _ (g : Graph) (rest : List Line) (steps : ℕ) where
+  by-refused : (r : Refusal) → graphVerdict g ≡ Verdict.Refused r → choiceOf (first (graphLines g ++ rest)) steps ≡ Choice.Refused r
+  unfolding choiceOf
+  by-refused r q = ap (λ (v : Verdict). choiceOf v steps) (first-refused (graphLines g) rest r q)
 
-  choice-clear : graphVerdict g ≡ Verdict.Clear
-      → theChoice g m p ≡ choiceOf (first (markingLines g m ++ personLines g p)) (those (g .steps) (allowedTo g m p))
+  by-clear : graphVerdict g ≡ Verdict.Clear → choiceOf (first (graphLines g ++ rest)) steps ≡ choiceOf (first rest) steps
+  by-clear q = ap (λ (v : Verdict). choiceOf v steps) (first-clear (graphLines g) rest q)
+
+module _ (g : Graph) (m : Marking) (p : ℕ) where
+  abbrev toPerson : ℕ
+  toPerson = those (g .steps) (allowedTo g m p)
+
+  pub choice-refused : (r : Refusal) → graphVerdict g ≡ Verdict.Refused r → theChoice g m p ≡ Choice.Refused r
   unfolding theChoice
-  choice-clear q = ap (λ (v : Verdict). choiceOf v (those (g .steps) (allowedTo g m p)))
-      (first-clear (graphLines g) (markingLines g m ++ personLines g p) q)
+  choice-refused = by-refused g (markingLines g m ++ personLines g p) toPerson
 
   pub choice-outside : graphVerdict g ≡ Verdict.Clear → markingFits (g .steps) m ≡ false → theChoice g m p ≡ Choice.Refused Outside
-  unfolding first choiceOf
-  choice-outside q f = choice-clear q ∙ simp f
+  unfolding theChoice first choiceOf
+  choice-outside q f = by-clear g (markingLines g m ++ personLines g p) toPerson q ∙ simp f
 
   pub choice-unknown : graphVerdict g ≡ Verdict.Clear → markingFits (g .steps) m ≡ true → ltb p (g .people) ≡ false
       → theChoice g m p ≡ Choice.Refused Unknown
-  unfolding first choiceOf
-  choice-unknown q f k = choice-clear q ∙ simp (f, k)
+  unfolding theChoice first choiceOf
+  choice-unknown q f k = by-clear g (markingLines g m ++ personLines g p) toPerson q ∙ simp (f, k)
 
   pub choice-steps : graphVerdict g ≡ Verdict.Clear → markingFits (g .steps) m ≡ true → ltb p (g .people) ≡ true
-      → theChoice g m p ≡ Choice.Steps (those (g .steps) (allowedTo g m p))
-  unfolding first choiceOf
-  choice-steps q f k = choice-clear q ∙ simp (f, k)
+      → theChoice g m p ≡ Choice.Steps toPerson
+  unfolding theChoice first choiceOf
+  choice-steps q f k = by-clear g (markingLines g m ++ personLines g p) toPerson q ∙ simp (f, k)
 
 module _ (g : Graph) (m : Marking) where
-  pub all-refused : (r : Refusal) → graphVerdict g ≡ Verdict.Refused r → theChoiceOfAll g m ≡ Choice.Refused r
-  unfolding theChoiceOfAll choiceOf
-  all-refused r q = ap (λ (v : Verdict). choiceOf v (those (g .steps) (allowedToSomeone g m)))
-      (first-refused (graphLines g) (markingLines g m) r q)
+  abbrev toAll : ℕ
+  toAll = those (g .steps) (allowedToSomeone g m)
 
-  all-clear : graphVerdict g ≡ Verdict.Clear
-      → theChoiceOfAll g m ≡ choiceOf (first (markingLines g m)) (those (g .steps) (allowedToSomeone g m))
+  pub all-refused : (r : Refusal) → graphVerdict g ≡ Verdict.Refused r → theChoiceOfAll g m ≡ Choice.Refused r
   unfolding theChoiceOfAll
-  all-clear q = ap (λ (v : Verdict). choiceOf v (those (g .steps) (allowedToSomeone g m))) (first-clear (graphLines g) (markingLines g m) q)
+  all-refused = by-refused g (markingLines g m) toAll
 
   pub all-outside : graphVerdict g ≡ Verdict.Clear → markingFits (g .steps) m ≡ false → theChoiceOfAll g m ≡ Choice.Refused Outside
-  unfolding first choiceOf
-  all-outside q f = all-clear q ∙ simp f
+  unfolding theChoiceOfAll first choiceOf
+  all-outside q f = by-clear g (markingLines g m) toAll q ∙ simp f
 
-  pub all-steps : graphVerdict g ≡ Verdict.Clear → markingFits (g .steps) m ≡ true
-      → theChoiceOfAll g m ≡ Choice.Steps (those (g .steps) (allowedToSomeone g m))
-  unfolding first choiceOf
-  all-steps q f = all-clear q ∙ simp f
+  pub all-steps : graphVerdict g ≡ Verdict.Clear → markingFits (g .steps) m ≡ true → theChoiceOfAll g m ≡ Choice.Steps toAll
+  unfolding theChoiceOfAll first choiceOf
+  all-steps q f = by-clear g (markingLines g m) toAll q ∙ simp f

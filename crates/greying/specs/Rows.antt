@@ -2,7 +2,7 @@
 use Prim.Native.Nat.{ℕ}
 use mathlib.Core.List.{List}
 use mathlib.Core.Bool.{Bool, not, _&&_}
-use Rattle.sets.specs.Sets.{has, meet, empty, those}
+use Rattle.sets.specs.Sets.{meet, empty, those}
 use Rattle.moves.specs.declared.Marking.{Marking}
 use Rattle.moves.specs.Move.{waitsFor}
 use Rattle.tables.specs.Tables.{row}

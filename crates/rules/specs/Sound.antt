@@ -12,7 +12,7 @@ use Rattle.moves.specs.declared.Marking.{Marking}
 use Rattle.moves.specs.declared.Verdict.{Verdict}
 use Rattle.tables.specs.Tables.{keeps, kindsApart}
 use Rattle.moves.specs.Move.{after}
-use Rattle.rules.specs.Answers.{rowOf, entryKnown}
+use Rattle.rules.specs.Answers.{rowOf}
 use Rattle.tables.specs.Laws.{Counted, keeps-row, keeps-gone}
 use Rattle.rules.specs.Laws.{clear-counts}
 use Rattle.moves.specs.Given.{clear-head, clear-tail}

@@ -11,7 +11,7 @@ use lib.Pow.{shr-shr, pow-mono}
 use mir.Val.{boolByte}
 use borrow.Author.Tests.{lt-ltb, le-ltb, eq-eqb, eqb-true, eqb-false}
 use Rattle.sets.specs.Sets.{has, single, union, meet, empty, lowest, gather, every, any, those}
-use Rattle.sets.specs.Truth.{same-truth, or-first, or-second, or-split, and-neither}
+use Rattle.sets.specs.Truth.{same-truth, or-and, or-first, or-second, or-split}
 use Rattle.sets.specs.Laws.{ext, has-union, has-meet, has-those, bit-lt, lt-of-members, empty-members, empty-gather, lowest-has, lowest-below}
 
 -- ---- a test holds somewhere in a range exactly if it holds at one of its numbers
@@ -42,14 +42,7 @@ any-same (suc k) p q same = ap₂ _||_ (any-same k p q (λ i h. same i (let z : 
 pub any-and : (k : ℕ) (p : ℕ → Bool) (b : Bool) → any k (λ i. p i && b) ≡ (any k p && b)
 unfolding any
 any-and zero p b = refl
-any-and (suc k) p b = ap (λ (x : Bool). x || (p k && b)) (any-and k p b) ∙ shared (any k p) (p k) b
-  where
-    shared : (x y b : Bool) → ((x && b) || (y && b)) ≡ ((x || y) && b)
-    shared true true true = refl
-    shared true true false = refl
-    shared true false true = refl
-    shared true false false = refl
-    shared false y b = refl
+any-and (suc k) p b = ap (λ (x : Bool). x || (p k && b)) (any-and k p b) ∙ sym (or-and (any k p) (p k) b)
 
 -- a test fails somewhere exactly if it does not hold everywhere
 pub any-not : (k : ℕ) (p : ℕ → Bool) → any k (λ i. not (p i)) ≡ not (every k p)
@@ -84,17 +77,10 @@ unfolding gather
 meet-gather zero f a = refl
 meet-gather (suc k) f a = meet-union (gather k f) (f k) a ∙ ap (λ (x : ℕ). union x (meet (f k) a)) (meet-gather k f a)
   where
-    shared : (x y b : Bool) → ((x || y) && b) ≡ ((x && b) || (y && b))
-    shared true true true = refl
-    shared true true false = refl
-    shared true false true = refl
-    shared true false false = refl
-    shared false y b = refl
-
     meet-union : (x y z : ℕ) → meet (union x y) z ≡ union (meet x z) (meet y z)
     meet-union x y z =
         ext _ _ (λ s. has-meet (union x y) z s ∙ ap (λ (b : Bool). b && has z s) (has-union x y s)
-        ∙ shared (has x s) (has y s) (has z s)
+        ∙ or-and (has x s) (has y s) (has z s)
         ∙ sym (has-union (meet x z) (meet y z) s ∙ ap₂ _||_ (has-meet x z s) (has-meet y z s)))
 
 -- one of the sets has something in common with a exactly if all of them together have

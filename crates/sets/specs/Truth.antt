@@ -3,6 +3,13 @@ use mathlib.Core.Path.{_≡_, refl, sym, ap, ap₂}
 use mathlib.Core.Logic.{_⊎_, inl, inr}
 use mathlib.Core.Bool.{Bool, true, false, _&&_, _||_, false≢true}
 
+pub or-and : (a b c : Bool) → ((a || b) && c) ≡ ((a && c) || (b && c))
+or-and true true true = refl
+or-and true true false = refl
+or-and true false true = refl
+or-and true false false = refl
+or-and false b c = refl
+
 -- two tests that hold together are the same
 pub same-truth : (p q : Bool) → (p ≡ true → q ≡ true) → (q ≡ true → p ≡ true) → p ≡ q
 same-truth true true f g = refl
