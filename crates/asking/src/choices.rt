@@ -1,20 +1,31 @@
-// Who may take which step now, and what keeps the others back: what is asked of every person and role.
+// Who may take which step now, and what keeps the others back: all people, or one of them.
+ghost use Prim.Native.Nat.{_<_};
+use crate::whom::Shown;
+use crate::whom::Whom;
+use crate::whom::choice_of;
+use crate::whom::shown_to;
+use finding::entries::say_found_of;
+use greying::Choice;
 use journal::Ran;
 use lines::places::Places;
+use lines::refusals::say_refused;
 use lines::say::say;
 use lines::say::say_count;
 use lines::say::say_number;
 use lines::say::say_set;
+use lines::states::Stated;
 use lines::states::say_ending;
 use lines::states::say_marking;
 use moves::Asked;
 use moves::Entry;
 use moves::Marking;
+use moves::Refusal;
 use moves::Step;
-use moves::Told;
+use moves::inner::waits;
 use output::page::Page;
 use output::status::Answer;
 use rules::Job;
+use rules::inner::row_at;
 use running::runs::say_halted;
 
 // The step stands first: the lines go step by step.
@@ -28,44 +39,15 @@ fn say_may(page: &mut Page, e: Entry) {
     say(page, b"\n");
 }
 
-// What those who were asked about are told of a step: may one of them take it, and the refusal with the highest number.
-struct Heard {
-    may: bool,
-    told: Told,
-}
-
-fn nothing() -> Heard {
-    Heard {
-        may: false,
-        told: Told {
-            number: 0,
-            waiting: 0,
-        },
-    }
-}
-
-fn with_refusal(mut h: Heard, t: Told) -> Heard {
-    if h.told.number < t.number {
-        h.told = t;
-    }
-    h
-}
-
-// May the person take the step in the role? Then it is said.
-fn asked(page: &mut Page, g: &Job, m: Marking, mut h: Heard, e: Entry) -> Heard {
+fn say_allowed(page: &mut Page, g: &Job, m: Marking, e: Entry) {
     let o = rules::ask(g, m, e);
-    match o {
-        Asked::Allowed => {
-            say_may(page, e);
-            h.may = true;
-            h
-        }
-        Asked::Refused(r) => with_refusal(h, moves::tell(r)),
+    if let Asked::Allowed = o {
+        say_may(page, e);
     }
 }
 
-fn in_each_role(page: &mut Page, g: &Job, m: Marking, before: Heard, s: u8, p: u8) -> Heard {
-    let mut h = before;
+// The step is allowed to the person: in which roles?
+fn say_roles(page: &mut Page, g: &Job, m: Marking, s: u8, p: u8) {
     let mut r = 0;
     while r < 16 {
         let e = Entry {
@@ -73,68 +55,114 @@ fn in_each_role(page: &mut Page, g: &Job, m: Marking, before: Heard, s: u8, p: u
             step: Step(s),
             role: r,
         };
-        h = asked(page, g, m, h, e);
+        say_allowed(page, g, m, e);
         r += 1;
     }
-    h
 }
 
-fn by_each_person(page: &mut Page, g: &Job, m: Marking, s: u8) -> Heard {
-    let mut h = nothing();
+fn say_people(page: &mut Page, g: &Job, m: Marking, to: &[u64; 16], s: u8)
+    requires { ⌜ s < 64 ⌝ }
+{
     let mut p = 0;
     while p < 16 {
-        h = in_each_role(page, g, m, h, s, p);
+        if sets::has(to[p], s) {
+            say_roles(page, g, m, s, p as u8);
+        }
         p += 1;
     }
-    h
+}
+
+fn say_unheld(page: &mut Page, w: Whom) {
+    match w {
+        Whom::Everyone => say(page, b", nobody holds a role that it has\n"),
+        Whom::Person(p) => {
+            say(page, b", person ");
+            say_number(page, p);
+            say(page, b" holds no role that it has\n");
+        }
+    }
 }
 
 // Whoever comes furthest is kept back by what the step waits for, or by its exclusion; else nobody comes as far.
-fn say_back(page: &mut Page, t: Told) {
-    let number = t.number;
-    match number {
-        15 => {
-            say(page, b", waits for ");
-            say_set(page, t.waiting);
-            say(page, b"\n");
-        }
-        14 => say(page, b", not included\n"),
-        _ => say(page, b", nobody holds a role that it has\n"),
+fn say_back(page: &mut Page, g: &Job, m: Marking, o: Shown, s: u8)
+    requires { ⌜ s < 64 ⌝ }
+{
+    if !sets::has(o.held, s) {
+        let w = o.whom;
+        say_unheld(page, w);
+        return;
     }
+    if !sets::has(m.included, s) {
+        say(page, b", not included\n");
+        return;
+    }
+    let w = row_at(g, 0, s);
+    say(page, b", waits for ");
+    say_set(page, waits(w.conditions, m));
+    say(page, b"\n");
 }
 
-fn say_choice(page: &mut Page, g: &Job, m: Marking, s: u8) {
-    let h = by_each_person(page, g, m, s);
-    if h.may {
+fn say_choice(page: &mut Page, g: &Job, m: Marking, o: Shown, s: u8)
+    requires { ⌜ s < 64 ⌝ }
+{
+    if sets::has(o.now, s) {
+        say_people(page, g, m, &o.to, s);
         return;
     }
     say(page, b"blocked: step ");
     say_number(page, s as u64);
-    let t = h.told;
-    say_back(page, t);
+    say_back(page, g, m, o, s);
 }
 
-fn say_choices(page: &mut Page, g: &Job, m: Marking) {
+fn say_choices(page: &mut Page, g: &Job, m: Marking, o: Shown) {
     let mut s = 0;
     while s < 64 {
         if (s as u64) < g[0] {
-            say_choice(page, g, m, s);
+            say_choice(page, g, m, o, s);
         }
         s += 1;
     }
 }
 
-fn say_open(page: &mut Page, g: &Job, m: Marking, entries: u16) -> Answer {
+fn say_shown(page: &mut Page, g: &Job, m: Marking, entries: u16, o: Shown) -> Answer {
     say_count(page, b"entries", entries as u64);
     say_marking(page, m);
-    say_choices(page, g, m);
+    say_choices(page, g, m, o);
     say_ending(page, rules::finished(g, m), m)
 }
 
-pub fn may(page: &mut Page, p: Places, g: &Job, m: Marking, j: &[u8]) -> Answer {
+fn stated(w: Whom) -> Stated {
+    let person = match w {
+        Whom::Everyone => 0,
+        Whom::Person(p) => p,
+    };
+    Stated {
+        person: person,
+        step: 0,
+        role: 0,
+    }
+}
+
+// The person was named by the call, so that no file is; and there is no entry.
+fn say_nobody(page: &mut Page, g: &Job, m: Marking, w: Whom, r: Refusal) -> Answer {
+    let refused = say_refused(page, 0, r);
+    say_found_of(page, g, stated(w), moves::tell(r));
+    say_marking(page, m);
+    refused
+}
+
+fn may_at(page: &mut Page, g: &Job, m: Marking, entries: u16, w: Whom) -> Answer {
+    let c = choice_of(g, m, w);
+    match c {
+        Choice::Steps(now) => say_shown(page, g, m, entries, shown_to(g, m, w, now)),
+        Choice::Refused(r) => say_nobody(page, g, m, w, r),
+    }
+}
+
+pub fn may(page: &mut Page, p: Places, g: &Job, m: Marking, j: &[u8], w: Whom) -> Answer {
     let o = journal::run(g, m, j);
     match o {
-        Ran::Ended(end, entries) => say_open(page, g, end, entries),
+        Ran::Ended(end, entries) => may_at(page, g, end, entries, w),
         Ran::Stopped(k, before, r) => say_halted(page, p, g, m, j, k, r, before),
     }
 }

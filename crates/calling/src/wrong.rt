@@ -1,6 +1,7 @@
 // Wrong use, each with its one line.
 use check::same;
 use commands::Command;
+use commands::Numbers;
 use commands::Shape;
 use commands::nearest::nearest;
 use files::arguments::Call;
@@ -24,9 +25,19 @@ pub fn place(c: Call, k: usize) -> usize {
     at[k + 1]
 }
 
+// Is there a place for a file to write? Numbers may stand there instead.
+fn has_out(s: Shape) -> bool {
+    let n = s.numbers;
+    match n {
+        Numbers::Entry => false,
+        Numbers::Person => false,
+        _ => true,
+    }
+}
+
 // The place of the file to write, or 0.
 pub fn out_of(s: Shape, c: Call) -> usize {
-    if s.entry {
+    if !has_out(s) {
         return 0;
     }
     place(c, s.out)
@@ -101,7 +112,7 @@ fn writes(c: Command, s: Shape) -> bool {
     if let Command::Help = c {
         return false;
     }
-    !s.entry & (s.out < s.most)
+    has_out(s) & (s.out < s.most)
 }
 
 fn has_untaken(c: Command, s: Shape, call: Call) -> bool {

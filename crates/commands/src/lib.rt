@@ -25,14 +25,21 @@ pub enum Command {
     Unknown,
 }
 
-// The operands of a command: is the first one N, how many stand before the file to write, and how few and how many there may be; do the
-// numbers of an entry stand there instead, and no file to write? Then the options that not every command takes.
+// The numbers among the operands: none; N before the files; or an entry or a person behind them, where else the file to write stands.
+pub enum Numbers {
+    None,
+    Count,
+    Entry,
+    Person,
+}
+
+// The operands of a command: the numbers among them, how many stand before the file to write, and how few and how many there may be.
+// Then the options that not every command takes.
 pub struct Shape {
-    pub numbered: bool,
+    pub numbers: Numbers,
     pub out: usize,
     pub least: usize,
     pub most: usize,
-    pub entry: bool,
     pub from: bool,
     pub status: bool,
     pub never: bool,

@@ -1,5 +1,6 @@
 // Which command a word means, and what stands behind it.
 use crate::Command;
+use crate::Numbers;
 use crate::Shape;
 use crate::nearest::searched;
 
@@ -12,13 +13,12 @@ pub fn named(word: &[u8]) -> Command {
     Command::Unknown
 }
 
-fn shaped(numbered: bool, out: usize, least: usize, most: usize) -> Shape {
+fn shaped(numbers: Numbers, out: usize, least: usize, most: usize) -> Shape {
     Shape {
-        numbered: numbered,
+        numbers: numbers,
         out: out,
         least: least,
         most: most,
-        entry: false,
         from: false,
         status: false,
         never: false,
@@ -37,12 +37,6 @@ fn asking(mut s: Shape) -> Shape {
     s
 }
 
-// Behind the files, who takes which step in which role.
-fn stating(mut s: Shape) -> Shape {
-    s.entry = true;
-    s
-}
-
 fn folding(mut s: Shape) -> Shape {
     s.never = true;
     s
@@ -50,25 +44,25 @@ fn folding(mut s: Shape) -> Shape {
 
 pub fn shape_of(c: Command) -> Shape {
     match c {
-        Command::Check => shaped(false, 1, 1, 1),
-        Command::Show => shaped(false, 1, 1, 1),
-        Command::Write => shaped(false, 1, 2, 2),
-        Command::May => starting(shaped(false, 2, 2, 2)),
-        Command::Ask => starting(stating(shaped(false, 2, 5, 5))),
-        Command::Take => starting(stating(shaped(false, 2, 5, 5))),
-        Command::Run => starting(shaped(false, 2, 2, 3)),
-        Command::Finished => asking(shaped(false, 2, 2, 2)),
-        Command::Fold => folding(shaped(false, 2, 3, 3)),
-        Command::Join => shaped(true, 3, 4, 4),
-        Command::Apply => shaped(true, 3, 3, 4),
-        Command::Restore => shaped(false, 3, 3, 4),
-        Command::Record => shaped(false, 1, 1, 1),
-        Command::Marking => shaped(false, 1, 1, 1),
-        Command::Entries => shaped(false, 1, 1, 1),
-        Command::Lap => starting(asking(shaped(false, 3, 3, 3))),
-        Command::Track => starting(shaped(false, 2, 2, 2)),
-        Command::Sample => shaped(false, 0, 0, 1),
-        Command::Help => shaped(false, 0, 0, 1),
-        Command::Unknown => shaped(false, 0, 0, 0),
+        Command::Check => shaped(Numbers::None, 1, 1, 1),
+        Command::Show => shaped(Numbers::None, 1, 1, 1),
+        Command::Write => shaped(Numbers::None, 1, 2, 2),
+        Command::May => starting(shaped(Numbers::Person, 2, 2, 3)),
+        Command::Ask => starting(shaped(Numbers::Entry, 2, 5, 5)),
+        Command::Take => starting(shaped(Numbers::Entry, 2, 5, 5)),
+        Command::Run => starting(shaped(Numbers::None, 2, 2, 3)),
+        Command::Finished => asking(shaped(Numbers::None, 2, 2, 2)),
+        Command::Fold => folding(shaped(Numbers::None, 2, 3, 3)),
+        Command::Join => shaped(Numbers::Count, 3, 4, 4),
+        Command::Apply => shaped(Numbers::Count, 3, 3, 4),
+        Command::Restore => shaped(Numbers::None, 3, 3, 4),
+        Command::Record => shaped(Numbers::None, 1, 1, 1),
+        Command::Marking => shaped(Numbers::None, 1, 1, 1),
+        Command::Entries => shaped(Numbers::None, 1, 1, 1),
+        Command::Lap => starting(asking(shaped(Numbers::None, 3, 3, 3))),
+        Command::Track => starting(shaped(Numbers::None, 2, 2, 2)),
+        Command::Sample => shaped(Numbers::None, 0, 0, 1),
+        Command::Help => shaped(Numbers::None, 0, 0, 1),
+        Command::Unknown => shaped(Numbers::None, 0, 0, 0),
     }
 }

@@ -33,7 +33,7 @@ fn say_operands(page: &mut Page, c: Command) {
         Command::Check => say(page, b" SHEET"),
         Command::Show => say(page, b" SHEET"),
         Command::Write => say(page, b" SHEET OUT"),
-        Command::May => say(page, b" SHEET JOURNAL [--from MARKING]"),
+        Command::May => say(page, b" SHEET JOURNAL [PERSON] [--from MARKING]"),
         Command::Ask => say(page, b" SHEET JOURNAL PERSON STEP ROLE [--from MARKING]"),
         Command::Take => say(page, b" SHEET JOURNAL PERSON STEP ROLE [--from MARKING]"),
         Command::Run => say(page, b" SHEET JOURNAL [OUT] [--from MARKING]"),

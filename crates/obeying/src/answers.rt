@@ -1,4 +1,5 @@
 // What each command answers.
+use asking::whom::Whom;
 use calling::wrong::complain_at;
 use calling::wrong::complain_unknown;
 use commands::Command;
@@ -15,12 +16,13 @@ use output::status::Answer;
 use rules::Job;
 use rules::WORDS;
 
-// What to answer: the command with its N or its entry, the arguments that name its files and the marking to start at, and the file to
-// write. A journal that is added to is both, and none that is read where it is not there yet.
+// What to answer: the command with its N, its entry or its people, the arguments that name its files and the marking to start at, and
+// the file to write. A journal that is added to is both, and none that is read where it is not there yet.
 pub struct Task {
     pub command: Command,
     pub number: u64,
     pub entry: Stated,
+    pub whom: Whom,
     pub first: usize,
     pub second: usize,
     pub third: usize,
@@ -125,12 +127,13 @@ fn give_of(page: &mut Page, g: &Job, m: Marking, t: Task, b: &[u8], c: &[u8]) ->
     let o = t.target;
     let p = places_of(t);
     let e = t.entry;
+    let w = t.whom;
     let command = t.command;
     match command {
         Command::Check => showing::sheets::check(page, g),
         Command::Show => showing::sheets::show(page, g, m),
         Command::Write => showing::sheets::write(page, g, m, o, t.first),
-        Command::May => asking::choices::may(page, p, g, m, b),
+        Command::May => asking::choices::may(page, p, g, m, b, w),
         Command::Ask => asking::entries::ask(page, p, g, m, b, e),
         Command::Take => asking::entries::take(page, p, g, m, b, e, o.at),
         Command::Run => running::runs::run(page, p, g, m, b, o),

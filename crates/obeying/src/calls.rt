@@ -1,8 +1,8 @@
 // What the arguments ask for is done: the files that they name are read, the floors below are asked, and their answers printed.
 use crate::answers::Task;
 use crate::answers::give;
+use asking::whom::Whom;
 use calling::numbers::Stating;
-use calling::numbers::number_at;
 use calling::numbers::stated_in;
 use calling::wrong::complain_at;
 use calling::wrong::complain_none;
@@ -18,7 +18,6 @@ use commands::words::shape_of;
 use files::appending::Place;
 use files::appending::looked_up;
 use files::arguments::Call;
-use files::arguments::Number;
 use files::reading::fetch;
 use files::writing::Target;
 use files::writing::same_file;
@@ -70,11 +69,19 @@ fn no_entry() -> Stated {
     }
 }
 
-fn task_of(command: Command, s: Shape, call: Call) -> Task {
+fn whom_of(o: Stating) -> Whom {
+    match o {
+        Stating::Person(p) => Whom::Person(p),
+        _ => Whom::Everyone,
+    }
+}
+
+fn task_of(command: Command, s: Shape, call: Call, w: Whom) -> Task {
     Task {
         command: command,
         number: 0,
         entry: no_entry(),
+        whom: w,
         first: input(s, call, 0),
         second: input(s, call, 1),
         third: input(s, call, 2),
@@ -88,21 +95,12 @@ fn task_of(command: Command, s: Shape, call: Call) -> Task {
 }
 
 // The inputs stand behind N.
-fn numbered(t: Task, number: u64) -> Task {
-    let o = t.target;
-    let e = t.entry;
-    let command = t.command;
-    Task {
-        command: command,
-        number: number,
-        entry: e,
-        first: t.second,
-        second: t.third,
-        third: 0,
-        from: t.from,
-        never: t.never,
-        target: o,
-    }
+fn numbered(mut t: Task, number: u64) -> Task {
+    t.number = number;
+    t.first = t.second;
+    t.second = t.third;
+    t.third = 0;
+    t
 }
 
 fn is_input(t: Task) -> bool {
@@ -170,30 +168,19 @@ fn obey_stated(page: &mut Page, mut t: Task, e: Stated) -> Answer {
     obey_task(page, t)
 }
 
-fn obey_entry(page: &mut Page, t: Task, call: Call) -> Answer {
-    let o = stated_in(call);
-    match o {
-        Stating::Is(e) => obey_stated(page, t, e),
-        Stating::None => Answer::Failed,
-    }
-}
-
 fn obey(page: &mut Page, c: Command, call: Call) -> Answer {
     let s = shape_of(c);
     if is_wrong(c, s, call) {
         return Answer::Failed;
     }
-    let t = task_of(c, s, call);
-    if s.entry {
-        return obey_entry(page, t, call);
-    }
-    if !s.numbered {
-        return obey_task(page, t);
-    }
-    let n = number_at(call, 0, b"N is a number, digits 0 to 9 alone");
-    match n {
-        Number::Is(number) => obey_task(page, numbered(t, number)),
-        Number::None => Answer::Failed,
+    let n = s.numbers;
+    let o = stated_in(n, call);
+    let t = task_of(c, s, call, whom_of(o));
+    match o {
+        Stating::Count(number) => obey_task(page, numbered(t, number)),
+        Stating::Entry(e) => obey_stated(page, t, e),
+        Stating::Wrong => Answer::Failed,
+        _ => obey_task(page, t),
     }
 }
 

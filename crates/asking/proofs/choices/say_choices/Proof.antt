@@ -5,10 +5,10 @@ use Rattle.asking.proofs.choices.say_choices.Statement.{statement}
 use Rattle.asking.proofs.choices.say_choices.Tie as tie
 
 abbrev Inv-loop : tie.InvT-loop
-Inv-loop page₀ g m s₀ page s = s ≤ 64
+Inv-loop page₀ g m o s₀ page s = s ≤ 64
 
 abbrev μ-loop : tie.MeasureT-loop
-μ-loop page₀ g m s₀ page s = 64 - s
+μ-loop page₀ g m o s₀ page s = 64 - s
 
 loop-holds : tie.Need-loop-holds Inv-loop μ-loop
 loop-holds c = search needs
