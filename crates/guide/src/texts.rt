@@ -73,7 +73,7 @@ fn say_may_page(page: &mut Page) {
         page,
         b"Runs the journal, then prints a line 'may' for each person and role that may take a step.\n\
           A step that nobody may take is 'blocked', with the reason: not included, what it waits for, or nobody holds its roles.\n\
-          With PERSON, a number from 0, both are of that person alone; where there is no such person, it is refused with 11.\n\
+          With PERSON, a number from 0, both lines are of that person alone; one who is not there is refused with 11.\n\
           It starts at the sheet's first marking, or with --from at that of a file of 24 bytes.\n\
           Refusals: 1 to 6, 7, 8, then 11 to 15 of the first entry not allowed.\n",
     );
