@@ -24,8 +24,8 @@ use moves::Step;
 use moves::inner::waits;
 use output::page::Page;
 use output::status::Answer;
+use rules::CONDITIONS;
 use rules::Job;
-use rules::inner::row_at;
 use running::runs::say_halted;
 
 // The step stands first: the lines go step by step.
@@ -96,9 +96,9 @@ fn say_back(page: &mut Page, g: &Job, m: Marking, o: Shown, s: u8)
         say(page, b", not included\n");
         return;
     }
-    let w = row_at(g, 0, s);
+    let i = s as usize;
     say(page, b", waits for ");
-    say_set(page, waits(w.conditions, m));
+    say_set(page, waits(g[CONDITIONS + i], m));
     say(page, b"\n");
 }
 

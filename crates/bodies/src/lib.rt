@@ -3,23 +3,27 @@ ghost use mathlib.Core.Path.{_≡_};
 ghost use Prim.Native.Nat.{_+_, _*_, _%_, _<_, _≤_};
 ghost use lib.ListN.{length};
 ghost use Rattle.numbers.specs.Numbers.{Spliced};
-ghost use Rattle.bodies.specs.Bodies.{countsBody, countsIn, markingBody, markingIn, rolesBody, setAt, setsIn, roleSetsFit};
+ghost use Rattle.bodies.specs.Bodies.{countsBody, countsIn, markingBody, markingIn, rowsBody, setAt, setsIn, roleSetsFit};
+ghost use Rattle.bodies.specs.Bodies.{labelAt, labelsIn, actionsFit};
 use moves::Marking;
 
 pub struct Counts {
     pub steps: u64,
     pub people: u64,
     pub roles: u64,
+    pub actions: u64,
 }
 
-pub fn read_counts(body: &[u8]) -> Counts
-    requires { ⌜ 3 ≤ length (now body) ⌝ }
-    ensures { λ r. ⌜ r ≡ countsIn (now (body .entry)) ⌝ }
+// Byte `at` counts the actions.
+pub fn read_counts(body: &[u8], at: usize) -> Counts
+    requires { ⌜ (3 ≤ length (now body)) × (at < length (now body)) ⌝ }
+    ensures { λ r. ⌜ r ≡ countsIn at (now (body .entry)) ⌝ }
 {
     Counts {
         steps: body[0] as u64,
         people: body[1] as u64,
         roles: body[2] as u64,
+        actions: body[at] as u64,
     }
 }
 
@@ -75,6 +79,43 @@ pub fn read_roles(body: &[u8], count: usize, block: &mut [u64], at: usize) -> us
     at + count
 }
 
+// Is each action of the body one that there is?
+pub fn actions_fit(body: &[u8], actions: u64) -> bool
+    ensures { λ r. ⌜ r ≡ actionsFit actions (now (body .entry)) ⌝ }
+{
+    let mut fit = true;
+    let mut i = 0;
+    while i < body.len() {
+        let a = body[i];
+        fit = fit & ((a as u64) < actions);
+        i += 1;
+    }
+    fit
+}
+
+// The action of step i: its own number below `own`, else that of the body; 0 past the end.
+fn label(body: &[u8], own: usize, i: usize) -> u64
+    ensures { λ r. ⌜ r ≡ labelAt own (now (body .entry)) i ⌝ }
+{
+    if i < own {
+        return i as u64;
+    }
+    if i < body.len() { body[i] as u64 } else { 0 }
+}
+
+// Puts the actions of `count` steps into the block from word `at` on, and gives the place after them.
+pub fn read_labels(body: &[u8], own: usize, count: usize, block: &mut [u64], at: usize) -> usize
+    requires { ⌜ (count ≤ 64) × (at + count ≤ length (now block)) ⌝ }
+    ensures { λ r. ⌜ Spliced (labelsIn count own (now (body .entry))) at (now (block .entry)) (now (block .exit)) r ⌝ }
+{
+    let mut i = 0;
+    while i < count {
+        block[at + i] = label(body, own, i);
+        i += 1;
+    }
+    at + count
+}
+
 // Copies the rows into the block from word `at` on, and gives the place after them.
 pub fn copy(rows: &[u64], block: &mut [u64], at: usize) -> usize
     requires { ⌜ at + length (now rows) ≤ length (now block) ⌝ }
@@ -88,13 +129,14 @@ pub fn copy(rows: &[u64], block: &mut [u64], at: usize) -> usize
     at + rows.len()
 }
 
-pub fn write_counts(steps: u64, people: u64, roles: u64, room: &mut [u8], at: usize) -> usize
-    requires { ⌜ at + 3 ≤ length (now room) ⌝ }
-    ensures { λ r. ⌜ Spliced (countsBody steps people roles) at (now (room .entry)) (now (room .exit)) r ⌝ }
+pub fn write_counts(c: Counts, room: &mut [u8], at: usize) -> usize
+    requires { ⌜ at + 4 ≤ length (now room) ⌝ }
+    ensures { λ r. ⌜ Spliced (countsBody (c .steps) (c .people) (c .roles) (c .actions)) at (now (room .entry)) (now (room .exit)) r ⌝ }
 {
-    let a = numbers::put(steps, 1, room, at);
-    let b = numbers::put(people, 1, room, a);
-    numbers::put(roles, 1, room, b)
+    let x = numbers::put(c.steps, 1, room, at);
+    let y = numbers::put(c.people, 1, room, x);
+    let z = numbers::put(c.roles, 1, room, y);
+    numbers::put(c.actions, 1, room, z)
 }
 
 pub fn write_marking(m: Marking, room: &mut [u8], at: usize) -> usize
@@ -106,14 +148,15 @@ pub fn write_marking(m: Marking, room: &mut [u8], at: usize) -> usize
     numbers::put(m.included, 8, room, b)
 }
 
-pub fn write_roles(count: usize, table: &[u64], room: &mut [u8], at: usize) -> usize
-    requires { ⌜ (count ≤ 64) × (count ≤ length (now table)) × (at + 2 * count ≤ length (now room)) ⌝ }
-    ensures { λ r. ⌜ Spliced (rolesBody count (now (table .entry))) at (now (room .entry)) (now (room .exit)) r ⌝ }
+// Writes the first `count` rows of the table, each in w bytes.
+pub fn write_rows(w: usize, count: usize, table: &[u64], room: &mut [u8], at: usize) -> usize
+    requires { ⌜ (w ≤ 8) × (count ≤ 64) × (count ≤ length (now table)) × (at + w * count ≤ length (now room)) ⌝ }
+    ensures { λ r. ⌜ Spliced (rowsBody w count (now (table .entry))) at (now (room .entry)) (now (room .exit)) r ⌝ }
 {
     let mut to = at;
     let mut i = 0;
     while i < count {
-        to = numbers::put(table[i], 2, room, to);
+        to = numbers::put(table[i], w, room, to);
         i += 1;
     }
     to

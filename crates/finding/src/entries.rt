@@ -11,10 +11,11 @@ use lines::states::Stated;
 use lines::states::as_stated;
 use moves::Entry;
 use moves::Told;
-use moves::inner::Row;
 use output::page::Page;
+use rules::ALLOWS;
+use rules::HOLDS;
 use rules::Job;
-use rules::inner::row_at;
+use rules::LABELS;
 
 fn say_one(page: &mut Page, what: &[u8], i: u64) {
     say_it(page, what);
@@ -55,42 +56,50 @@ fn say_waits(page: &mut Page, waiting: u64, step: u64) {
     say(page, b"\n");
 }
 
-// On the row of the entry's person and step. Numbers 12 to 15.
-fn say_row(page: &mut Page, w: Row, e: Stated, t: Told) {
-    let number = t.number;
-    match number {
-        12 => {
-            say_one(page, b"person ", e.person);
-            say_roles(page, w.held, e.role);
-        }
-        13 => {
-            say_one(page, b"step ", e.step);
-            say_roles(page, w.allows, e.role);
-        }
-        14 => {
-            say_one(page, b"step ", e.step);
-            say(page, b", excluded");
-            say_wanted(page, b"included");
-        }
-        15 => say_waits(page, t.waiting, e.step),
-        _ => {}
-    }
-}
-
-pub fn say_found_of(page: &mut Page, g: &Job, e: Stated, t: Told) {
+fn say_holder(page: &mut Page, g: &Job, e: Stated) {
     let p = e.person;
-    let s = e.step;
-    if t.number == 11 {
-        say_unknown(page, g, e);
-        return;
-    }
     if 15 < p {
         return;
     }
+    let i = p as usize;
+    say_one(page, b"person ", p);
+    say_roles(page, g[HOLDS + i], e.role);
+}
+
+// A step has the roles of its action.
+fn say_action(page: &mut Page, g: &Job, e: Stated) {
+    let s = e.step;
     if 63 < s {
         return;
     }
-    say_row(page, row_at(g, p as u8, s as u8), e, t);
+    let i = s as usize;
+    let a = g[LABELS + i];
+    if 63 < a {
+        return;
+    }
+    let k = a as usize;
+    say_one(page, b"step ", s);
+    say(page, b", action ");
+    say_number(page, a);
+    say_roles(page, g[ALLOWS + k], e.role);
+}
+
+fn say_excluded(page: &mut Page, step: u64) {
+    say_one(page, b"step ", step);
+    say(page, b", excluded");
+    say_wanted(page, b"included");
+}
+
+pub fn say_found_of(page: &mut Page, g: &Job, e: Stated, t: Told) {
+    let number = t.number;
+    match number {
+        11 => say_unknown(page, g, e),
+        12 => say_holder(page, g, e),
+        13 => say_action(page, g, e),
+        14 => say_excluded(page, e.step),
+        15 => say_waits(page, t.waiting, e.step),
+        _ => {}
+    }
 }
 
 pub fn say_found(page: &mut Page, g: &Job, e: Entry, t: Told) {

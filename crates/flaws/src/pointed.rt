@@ -1,6 +1,6 @@
 // Numbers 5 and 6 of a sheet: the first arrow that is wrong or out of order, and the first pair that both includes and excludes.
-ghost use Prim.Native.Nat.{_+_, _*_, _<_, _≤_};
-use crate::roles::arrows_at;
+use crate::roles::begins;
+use crate::roles::size;
 use crate::roles::steps;
 use finding::words::say_found;
 use finding::words::say_known;
@@ -30,25 +30,30 @@ pub struct Both {
     pub steps: u64,
 }
 
-fn arrow_at(s: &[u8], at: usize) -> Arrow {
-    if s.len() < 3 {
+// The arrows are body 5, and what is behind it is none of theirs; nothing where it is not there.
+fn arrows_of(s: &[u8]) -> &[u8] {
+    let from = begins(s, 4);
+    let end = from + size(s, 4);
+    if s.len() < end {
+        return &s[0..0];
+    }
+    &s[from..end]
+}
+
+// Arrow k, counted from 0.
+fn arrow_at(body: &[u8], k: usize) -> Arrow {
+    if body.len() / 3 <= k {
         return Arrow {
             kind: 0,
             from: 0,
             to: 0,
         };
     }
-    if s.len() - 3 < at {
-        return Arrow {
-            kind: 0,
-            from: 0,
-            to: 0,
-        };
-    }
+    let at = 3 * k;
     Arrow {
-        kind: s[at],
-        from: s[at + 1],
-        to: s[at + 2],
+        kind: body[at],
+        from: body[at + 1],
+        to: body[at + 2],
     }
 }
 
@@ -63,9 +68,8 @@ fn before(a: Arrow, b: Arrow) -> bool {
     a.to < b.to
 }
 
-// Of the arrow at `at`, which is the first of the sheet or stands behind another.
-fn wrong_with(s: &[u8], at: usize, first: bool, n: usize) -> Why {
-    let a = arrow_at(s, at);
+fn wrong_with(body: &[u8], k: usize, n: usize) -> Why {
+    let a = arrow_at(body, k);
     if 3 < a.kind {
         return Why::Kind;
     }
@@ -75,13 +79,10 @@ fn wrong_with(s: &[u8], at: usize, first: bool, n: usize) -> Why {
     if n <= a.to as usize {
         return Why::Step;
     }
-    if first {
+    if k == 0 {
         return Why::Nothing;
     }
-    if at < 3 {
-        return Why::Nothing;
-    }
-    if before(arrow_at(s, at - 3), a) {
+    if before(arrow_at(body, k - 1), a) {
         return Why::Nothing;
     }
     Why::Order
@@ -96,14 +97,12 @@ fn is_wrong(w: Why) -> bool {
     }
 }
 
-// The first arrow that is wrong; as many as there can be, where none is.
-fn wrong_at(s: &[u8], from: usize, n: usize) -> usize
-    requires { ⌜ from < 65536 ⌝ }
-    ensures { λ r. ⌜ r ≤ 12288 ⌝ }
-{
+// The first arrow that is wrong; as many as there are, where none is.
+fn wrong_at(body: &[u8], n: usize) -> usize {
+    let count = body.len() / 3;
     let mut k = 0;
-    while k < 12288 {
-        if is_wrong(wrong_with(s, from + 3 * k, k == 0, n)) {
+    while k < count {
+        if is_wrong(wrong_with(body, k, n)) {
             return k;
         }
         k += 1;
@@ -119,14 +118,14 @@ fn say_triple(page: &mut Page, a: Arrow) {
     say_number(page, a.to as u64);
 }
 
-fn say_reason(page: &mut Page, s: &[u8], at: usize, w: Why, n: usize) {
+fn say_reason(page: &mut Page, body: &[u8], k: usize, w: Why, n: usize) {
     match w {
         Why::Kind => say_wanted(page, b"a kind from 0 to 3"),
         Why::Step => say_known(page, b"steps", n as u64),
         Why::Order => {
             say(page, b", after ");
-            if 3 <= at {
-                say_triple(page, arrow_at(s, at - 3));
+            if 0 < k {
+                say_triple(page, arrow_at(body, k - 1));
             }
             say_wanted(page, b"arrows in ascending order, no arrow twice");
         }
@@ -135,15 +134,14 @@ fn say_reason(page: &mut Page, s: &[u8], at: usize, w: Why, n: usize) {
 }
 
 pub fn say_wrong(page: &mut Page, s: &[u8]) {
-    let from = arrows_at(s);
+    let body = arrows_of(s);
     let n = steps(s);
-    let k = wrong_at(s, from, n);
-    let at = from + 3 * k;
+    let k = wrong_at(body, n);
     say_found(page, b"arrow ");
     say_size(page, k);
     say(page, b" is ");
-    say_triple(page, arrow_at(s, at));
-    say_reason(page, s, at, wrong_with(s, at, k == 0, n), n);
+    say_triple(page, arrow_at(body, k));
+    say_reason(page, body, k, wrong_with(body, k, n), n);
 }
 
 fn shared(table: &[u64; 256]) -> Both {
@@ -161,15 +159,11 @@ fn shared(table: &[u64; 256]) -> Both {
     Both { from: 0, steps: 0 }
 }
 
-pub fn first_both(s: &[u8], from: usize, n: usize) -> Both {
+fn first_both(body: &[u8], n: usize) -> Both {
     let mut table = [0u64; 256];
-    if s.len() < from {
-        return Both { from: 0, steps: 0 };
-    }
     if 64 < n {
         return Both { from: 0, steps: 0 };
     }
-    let body = &s[from..];
     if body.len() % 3 != 0 {
         return Both { from: 0, steps: 0 };
     }
@@ -178,7 +172,7 @@ pub fn first_both(s: &[u8], from: usize, n: usize) -> Both {
 }
 
 pub fn say_both(page: &mut Page, s: &[u8]) {
-    let b = first_both(s, arrows_at(s), steps(s));
+    let b = first_both(arrows_of(s), steps(s));
     say_found(page, b"step ");
     say_number(page, b.from);
     say(page, b" includes and excludes step ");

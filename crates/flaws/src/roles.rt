@@ -1,4 +1,4 @@
-// Numbers 2, 3 and 4 of a sheet: its counts, the sizes of its role sets, and what its sets name beyond the counts.
+// Numbers 2, 3 and 4 of a sheet: its counts, the sizes of the bodies that hang on them, and what is named beyond them.
 ghost use Prim.Native.Nat.{_+_, _*_, _<_, _≤_};
 use finding::markings::first_stray;
 use finding::markings::say_beyond;
@@ -24,63 +24,87 @@ pub struct Extra {
     pub roles: u64,
 }
 
+// Has the sheet no body with the actions of the steps? Then body 3 has the roles of steps, and there are as many actions as steps.
+fn is_five(s: &[u8]) -> bool {
+    byte(s, 0) == 5
+}
+
+// Where body i begins and how long it is, by the contents, counted from 0.
+pub fn begins(s: &[u8], i: usize) -> usize
+    requires { ⌜ i < 6 ⌝ }
+    ensures { λ r. ⌜ r < 65536 ⌝ }
+{
+    two(s, 2 + 5 * i)
+}
+
+pub fn size(s: &[u8], i: usize) -> usize
+    requires { ⌜ i < 6 ⌝ }
+    ensures { λ r. ⌜ r < 65536 ⌝ }
+{
+    two(s, 4 + 5 * i)
+}
+
+// Byte i of the counts.
+fn count_at(s: &[u8], i: usize) -> usize
+    requires { ⌜ i < 4 ⌝ }
+    ensures { λ r. ⌜ r < 256 ⌝ }
+{
+    byte(s, begins(s, 0) + i)
+}
+
 pub fn steps(s: &[u8]) -> usize
     ensures { λ r. ⌜ r < 256 ⌝ }
 {
-    byte(s, 26)
+    count_at(s, 0)
 }
 
-pub fn people(s: &[u8]) -> usize
+fn people(s: &[u8]) -> usize
     ensures { λ r. ⌜ r < 256 ⌝ }
 {
-    byte(s, 27)
+    count_at(s, 1)
 }
 
 fn roles(s: &[u8]) -> u64
     ensures { λ r. ⌜ r < 256 ⌝ }
 {
-    byte(s, 28) as u64
+    count_at(s, 2) as u64
 }
 
-// Where the role sets of people begin, and where the arrows.
-fn holds_at(s: &[u8]) -> usize
-    ensures { λ r. ⌜ r < 1024 ⌝ }
+fn actions(s: &[u8]) -> usize
+    ensures { λ r. ⌜ r < 256 ⌝ }
 {
-    53 + 2 * steps(s)
-}
-
-pub fn arrows_at(s: &[u8]) -> usize
-    ensures { λ r. ⌜ r < 2048 ⌝ }
-{
-    holds_at(s) + 2 * people(s)
+    if is_five(s) { steps(s) } else { count_at(s, 3) }
 }
 
 fn fits(count: u64, most: u64) -> bool {
     (1 <= count) & (count <= most)
 }
 
-fn say_count(page: &mut Page, count: u64, what: &[u8]) {
+fn say_count(page: &mut Page, count: u64, what: &[u8], wants: &[u8]) {
     say_found(page, b"");
     say_number(page, count);
     say(page, b" ");
     say(page, what);
+    say_wanted(page, wants);
 }
 
 pub fn say_counts(page: &mut Page, s: &[u8]) {
     let n = steps(s) as u64;
     let p = people(s) as u64;
+    let r = roles(s);
     if !fits(n, 64) {
-        say_count(page, n, b"steps");
-        say_wanted(page, b"1 to 64");
+        say_count(page, n, b"steps", b"1 to 64");
         return;
     }
     if !fits(p, 16) {
-        say_count(page, p, b"people");
-        say_wanted(page, b"1 to 16");
+        say_count(page, p, b"people", b"1 to 16");
         return;
     }
-    say_count(page, roles(s), b"roles");
-    say_wanted(page, b"1 to 16");
+    if !fits(r, 16) {
+        say_count(page, r, b"roles", b"1 to 16");
+        return;
+    }
+    say_count(page, actions(s) as u64, b"actions", b"1 to 64");
 }
 
 fn say_sized(page: &mut Page, body: usize, size: usize, wants: usize) {
@@ -91,22 +115,41 @@ fn say_sized(page: &mut Page, body: usize, size: usize, wants: usize) {
     say(page, b" bytes");
     say_expected(page, b"");
     say_size(page, wants);
-    say(page, b", two for each of the ");
+}
+
+fn say_each(page: &mut Page, bytes: &[u8], what: &[u8], count: usize) {
+    say(page, bytes);
+    say(page, b" for each of the ");
+    say_all(page, what, count as u64);
+    say(page, b"\n");
+}
+
+fn say_allowed_each(page: &mut Page, s: &[u8], count: usize) {
+    if is_five(s) {
+        say_each(page, b", two", b"steps", count);
+    } else {
+        say_each(page, b", two", b"actions", count);
+    }
 }
 
 pub fn say_sizes(page: &mut Page, s: &[u8]) {
-    let n = steps(s);
+    let a = actions(s);
     let p = people(s);
-    let allows = two(s, 14);
-    let holds = two(s, 19);
-    if allows != 2 * n {
-        say_sized(page, 3, allows, 2 * n);
-        say_all(page, b"steps", n as u64);
-    } else {
-        say_sized(page, 4, holds, 2 * p);
-        say_all(page, b"people", p as u64);
+    let n = steps(s);
+    let allows = size(s, 2);
+    let holds = size(s, 3);
+    if allows != 2 * a {
+        say_sized(page, 3, allows, 2 * a);
+        say_allowed_each(page, s, a);
+        return;
     }
-    say(page, b"\n");
+    if holds != 2 * p {
+        say_sized(page, 4, holds, 2 * p);
+        say_each(page, b", two", b"people", p);
+        return;
+    }
+    say_sized(page, 6, size(s, 5), n);
+    say_each(page, b", one", b"steps", n);
 }
 
 // The first of `count` role sets from byte `from` on that names roles beyond theirs.
@@ -132,28 +175,65 @@ fn say_extra(page: &mut Page, x: Extra, whose: &[u8], roles: u64) {
     say_known(page, b"roles", roles);
 }
 
-pub fn first_marking(s: &[u8]) -> Marking {
-    Marking {
-        done: eight(s, 29),
-        due: eight(s, 37),
-        included: eight(s, 45),
+fn say_allowed_extra(page: &mut Page, s: &[u8], x: Extra, roles: u64) {
+    if is_five(s) {
+        say_extra(page, x, b" of step ", roles);
+    } else {
+        say_extra(page, x, b" of action ", roles);
     }
 }
 
-fn say_role_sets(page: &mut Page, s: &[u8]) {
-    let n = steps(s);
-    let p = people(s);
+// The first of `count` steps whose action is not there; their bytes begin at `from`.
+fn first_unknown(s: &[u8], from: usize, count: usize, actions: usize) -> usize
+    requires { ⌜ (from < 65536) × (count < 256) ⌝ }
+    ensures { λ r. ⌜ r < 256 ⌝ }
+{
+    let mut i = 0;
+    while i < count {
+        if actions <= byte(s, from + i) {
+            return i;
+        }
+        i += 1;
+    }
+    0
+}
+
+fn say_unknown(page: &mut Page, s: &[u8]) {
+    let from = begins(s, 5);
+    let a = actions(s);
+    let i = first_unknown(s, from, steps(s), a);
+    say_found(page, b"action ");
+    say_size(page, byte(s, from + i));
+    say(page, b" of step ");
+    say_size(page, i);
+    say_known(page, b"actions", a as u64);
+}
+
+fn say_rows(page: &mut Page, s: &[u8]) {
     let r = roles(s);
-    let holds = holds_at(s);
     if 64 < r {
         return;
     }
-    let x = first_extra(s, 53, n, r);
+    let x = first_extra(s, begins(s, 2), actions(s), r);
     if x.roles != 0 {
-        say_extra(page, x, b" of step ", r);
+        say_allowed_extra(page, s, x, r);
         return;
     }
-    say_extra(page, first_extra(s, holds, p, r), b" of person ", r);
+    let y = first_extra(s, begins(s, 3), people(s), r);
+    if y.roles != 0 {
+        say_extra(page, y, b" of person ", r);
+        return;
+    }
+    say_unknown(page, s);
+}
+
+fn first_marking(s: &[u8]) -> Marking {
+    let at = begins(s, 1);
+    Marking {
+        done: eight(s, at),
+        due: eight(s, at + 8),
+        included: eight(s, at + 16),
+    }
 }
 
 pub fn say_sets(page: &mut Page, s: &[u8]) {
@@ -166,5 +246,5 @@ pub fn say_sets(page: &mut Page, s: &[u8]) {
         say_beyond(page, found, b" of the first marking", n);
         return;
     }
-    say_role_sets(page, s);
+    say_rows(page, s);
 }

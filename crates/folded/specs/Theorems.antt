@@ -98,7 +98,7 @@ fold-tells g j r e =
 
 -- a graph with nothing against it has 1 to 64 steps
 clear-steps : (g : Graph) → graphVerdict g ≡ Verdict.Clear → within1to (g .steps) 64 ≡ true
-clear-steps g e = let c : Counted (g .steps) (g .people) (g .roles) = clear-counts g e in
+clear-steps g e = let c : Counted (g .steps) (g .people) (g .roles) (g .actions) = clear-counts g e in
     and-intro (le-leb 1 (g .steps) (c .steps-some)) (le-leb (g .steps) 64 (c .steps-most))
 
 -- ---- one journal after another

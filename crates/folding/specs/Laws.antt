@@ -120,11 +120,12 @@ unfolding entryRecord
 record-unknown g e k = simp k
 
 -- in a graph with nothing against it, the roles alone say whether some marking could allow an entry
-pub record-serves : (g : Graph) (e : Entry) (p : Bool) → graphVerdict g ≡ Verdict.Clear
+pub record-serves : (g : Graph) (e : Entry) (p : Bool) → graphVerdict g ≡ Verdict.Clear → e .step .0 < g .steps
     → (personHolds (rowMet g e) e && stepHas (rowMet g e) e) ≡ p
     → entryRecord g e ≡ cond p (stepRecord (rowMet g e) (e .step .0)) impossible
 unfolding entryRecord
-record-serves g e p clear q = ap (λ (x : Bool). cond x (stepRecord (rowMet g e) (e .step .0)) impossible) (possible-serves g e clear ∙ q)
+record-serves g e p clear known q =
+    ap (λ (x : Bool). cond x (stepRecord (rowMet g e) (e .step .0)) impossible) (possible-serves g e clear known ∙ q)
 
 -- an entry's record clears what is due of the steps that it does, and of no other
 pub entry-clears : (g : Graph) (e : Entry) → entryRecord g e .dueclear ≡ entryRecord g e .done

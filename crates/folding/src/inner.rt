@@ -46,7 +46,7 @@ pub fn step_record(w: Row, s: u8) -> Record
 }
 
 // What an entry needs and does, with nothing tidied, on a graph with nothing against it: there only a known person holds a role, and
-// only a known step has one, so that the counts need not be looked at.
+// only known roles are held, so that these counts need not be looked at.
 pub fn entry_record(g: &Job, e: Entry) -> Record
     requires { ⌜ graphVerdict (graphOf (now g)) ≡ Verdict.Clear ⌝ }
     ensures { λ r. ⌜ r ≡ entryRecord (graphOf (now (g .entry))) e ⌝ }
@@ -57,7 +57,7 @@ pub fn entry_record(g: &Job, e: Entry) -> Record
     if 16 <= p {
         return NEVER;
     }
-    if 64 <= s {
+    if g[0] <= s as u64 {
         return NEVER;
     }
     if 16 <= role {

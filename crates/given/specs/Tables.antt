@@ -46,9 +46,9 @@ module _ (g : Graph) where
   check-given = exactly (graphLines g) (numberOfVerdict (graphVerdict g)) refl refl
 
   -- and each of them holds as its definition says, with whatever is stored beyond the counts
-  pub check-2 : holds 2 (graphLines g) ≡ not (countsFit (g .steps) (g .people) (g .roles))
+  pub check-2 : holds 2 (graphLines g) ≡ not (countsFit (g .steps) (g .people) (g .roles) (g .actions))
   unfolding holds numberOf
-  check-2 = or-false (not (countsFit (g .steps) (g .people) (g .roles)))
+  check-2 = or-false (not (countsFit (g .steps) (g .people) (g .roles) (g .actions)))
 
   pub check-4 : holds 4 (graphLines g) ≡ not (setsFit g)
   unfolding holds numberOf

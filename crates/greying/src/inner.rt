@@ -1,12 +1,10 @@
 // The steps that are not grey, on a graph with nothing against it.
 ghost use mathlib.Core.Path.{_≡_};
-ghost use Prim.Native.Nat.{_≤_};
-ghost use lib.ListN.{length};
 ghost use Rattle.sets.specs.Sets.{meet};
 ghost use Rattle.moves.specs.declared.Verdict.{Verdict};
 ghost use Rattle.rules.specs.Graph.{graphOf, graphVerdict};
 ghost use Rattle.greying.specs.Greying.{theChoice, theChoiceOfAll};
-ghost use Rattle.greying.specs.Rows.{rowPasses, rowsPassing, stepsFor};
+ghost use Rattle.greying.specs.Rows.{Tabled, rowPasses, rowsPassing, stepsFor};
 use crate::Choice;
 use moves::Marking;
 use moves::Refusal;
@@ -16,6 +14,7 @@ use rules::ALLOWS;
 use rules::CONDITIONS;
 use rules::HOLDS;
 use rules::Job;
+use rules::LABELS;
 use rules::RESPONSES;
 use rules::WORDS;
 use rules::inner::row_at;
@@ -30,17 +29,25 @@ fn passes(held: u64, allows: u64, conditions: u64, m: Marking) -> bool
     (both != 0) & (awaited == 0)
 }
 
-// The steps below `count` whose rows let pass, from the last to the first: what is found is moved up by a step at every row, and the row's own
-// step is put below it, so that no row needs a branch or a shift of its own.
-fn passing<'a>(allows: &'a [u64], conditions: &'a [u64], count: usize, held: u64, m: Marking) -> u64
-    requires { ⌜ (count ≤ 64) × (count ≤ length (now allows)) × (count ≤ length (now conditions)) ⌝ }
-    ensures { λ r. ⌜ r ≡ rowsPassing (now (allows .entry)) (now (conditions .entry)) count held m ⌝ }
+// The steps below `count` whose rows let pass, from the last to the first: what is found is moved up by a step at every row, and the
+// row's own step is put below it, so that no row needs a branch or a shift of its own. A step's roles are read at its action.
+fn passing<'a>(
+    labels: &'a [u64],
+    allows: &'a [u64],
+    conditions: &'a [u64],
+    count: usize,
+    held: u64,
+    m: Marking,
+) -> u64
+    requires { ⌜ Tabled count (now labels) (now allows) (now conditions) ⌝ }
+    ensures { λ r. ⌜ r ≡ rowsPassing (now (labels .entry)) (now (allows .entry)) (now (conditions .entry)) count held m ⌝ }
 {
     let mut s = count;
     let mut found = 0;
     while 0 < s {
         s -= 1;
-        found = (found + found) + (passes(held, allows[s], conditions[s], m) as u64);
+        let a = labels[s] as usize;
+        found = (found + found) + (passes(held, allows[a], conditions[s], m) as u64);
     }
     found
 }
@@ -59,7 +66,14 @@ fn steps_for(g: &Job, m: Marking, held: u64) -> u64
 {
     let n = g[0] as usize;
     let w = &g[..];
-    let found = passing(&w[ALLOWS..HOLDS], &w[CONDITIONS..RESPONSES], n, held, m);
+    let found = passing(
+        &w[LABELS..WORDS],
+        &w[ALLOWS..HOLDS],
+        &w[CONDITIONS..RESPONSES],
+        n,
+        held,
+        m,
+    );
     not_excluded(found, m.included)
 }
 
@@ -87,6 +101,6 @@ pub fn choice_of_all_on(g: &Job, m: Marking) -> Choice
         return Choice::Refused(Refusal::Outside);
     }
     let w = &g[..];
-    let held = roles_named(&w[HOLDS..WORDS], 16);
+    let held = roles_named(&w[HOLDS..LABELS], 16);
     Choice::Steps(steps_for(g, m, held))
 }

@@ -35,7 +35,7 @@ fn say_commands(page: &mut Page) {
 }
 
 pub fn say_version(page: &mut Page) {
-    say(page, b"ulz 0.2.0\n");
+    say(page, b"ulz 0.3.0\n");
 }
 
 pub fn say_help(page: &mut Page) {

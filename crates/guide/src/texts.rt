@@ -46,7 +46,7 @@ pub fn say_phrase(page: &mut Page, c: Command) {
 fn say_check_page(page: &mut Page) {
     say(
         page,
-        b"Prints 'sheet: ok' and the number of steps, people, roles and arrows.\n\
+        b"Prints 'sheet: ok' and the number of steps, people, roles, actions and arrows.\n\
           Refusals: 1 to 6.\n",
     );
 }
@@ -54,8 +54,8 @@ fn say_check_page(page: &mut Page) {
 fn say_show_page(page: &mut Page) {
     say(
         page,
-        b"Prints each person's roles, each step with its roles and its place in the first marking, each arrow in words,\n\
-          and whether the job is finished there; if not, the steps to do, those both due and included.\n\
+        b"Prints the roles of each person and each action, each step with its action, the roles of that and its place in the first\n\
+          marking, each arrow in words, and whether the job is finished there; if not, the steps to do, those both due and included.\n\
           Refusals: 1 to 6.\n",
     );
 }
@@ -63,7 +63,8 @@ fn say_show_page(page: &mut Page) {
 fn say_write_page(page: &mut Page) {
     say(
         page,
-        b"Reads the sheet and writes the graph and the first marking that it holds: the same bytes.\n\
+        b"Reads the sheet, of six bodies or of five, and writes the graph and the first marking that it holds, in six: the same bytes,\n\
+          where it had six. In five bodies every step is its own action.\n\
           Refusals: 1 to 6.\n",
     );
 }

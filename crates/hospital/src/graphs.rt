@@ -9,6 +9,7 @@ use rules::EXCLUDES;
 use rules::HOLDS;
 use rules::INCLUDES;
 use rules::Job;
+use rules::LABELS;
 use rules::RESPONSES;
 use rules::WORDS;
 
@@ -39,12 +40,16 @@ pub fn prescribe() -> Job {
     g[0] = 3;
     g[1] = 2;
     g[2] = 2;
+    g[3] = 3;
     // "D for Doctor and N for Nurse": the doctor prescribes and signs, the nurse gives.
     g[HOLDS] = 1;
     g[HOLDS + 1] = 2;
     g[ALLOWS] = 1;
     g[ALLOWS + 1] = 2;
     g[ALLOWS + 2] = 1;
+    // Each event has an action of its own.
+    g[LABELS + 1] = 1;
+    g[LABELS + 2] = 2;
     // Prescribe medicine is a condition of sign.
     g[CONDITIONS] = 4;
     // Sign and give medicine are responses of prescribe medicine.
@@ -58,6 +63,8 @@ pub fn prescribe() -> Job {
 pub fn check() -> Job {
     let mut g = prescribe();
     g[0] = 4;
+    g[3] = 4;
+    g[LABELS + 3] = 3;
     // It is the nurse who may say so.
     g[ALLOWS + 3] = 2;
     // In Fig. 5(a) don't trust is blocked until sign, "which enables give medicine and don't trust".

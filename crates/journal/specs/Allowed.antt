@@ -1,19 +1,16 @@
 -- Is an entry allowed? Asked all at once, and how a run tests it on a graph with nothing against it.
 -- Assumes nothing.
-use Prim.Native.Nat.{ℕ, _^_, _≤_, _<_}
-use mathlib.Core.Path.{_≡_, refl, sym, ap, _∙_, subst}
+use Prim.Native.Nat.{_^_, _≤_, _<_}
+use mathlib.Core.Path.{_≡_, refl, sym, ap, _∙_}
 use mathlib.Core.List.{List, [], _∷_}
 use mathlib.Core.Bool.{Bool, true, false, not, _&&_, cond, true≢false}
-use native.Mathlib.Decide.{decLt}
 use native.Mathlib.Omega.{arith}
 use lib.Bits.{bitOr, or-lt}
-use lib.Dec.{ltb}
-use lib.ListN.{length, List·getD-eq-default}
-use borrow.Author.Tests.{ltb-true, lt-ltb, le-ltb, not-true, not-false}
-use Rattle.sets.specs.Sets.{has, meet, empty, within}
+use borrow.Author.Tests.{lt-ltb, not-true}
+use Rattle.sets.specs.Sets.{has, meet, empty}
 use Rattle.sets.specs.Truth.{and-left, and-right, and-intro}
-use Rattle.sets.specs.Laws.{has-meet, has-zero, has-above, every-at}
-use Rattle.rules.specs.Graph.{Graph, setsFit, rolesOf, rolesHeld, graphVerdict}
+use Rattle.sets.specs.Laws.{has-meet, member-below}
+use Rattle.rules.specs.Graph.{Graph, rolesOf, rolesHeld, graphVerdict}
 use Rattle.moves.specs.declared.Marking.{Marking}
 use Rattle.moves.specs.declared.Entry.{Entry}
 use Rattle.moves.specs.declared.Refusal.{Refusal}
@@ -21,12 +18,10 @@ use Rattle.moves.specs.declared.Verdict.{Verdict}
 use Rattle.moves.specs.declared.Asked.{Asked}
 use Rattle.moves.specs.declared.Move.{Move}
 use Rattle.moves.specs.First.{Line, first}
-use Rattle.tables.specs.Tables.{row, keeps, rolesFit}
 use Rattle.rules.specs.Answers.{rowOf, entryKnown, entryLines, afterEntry, entryAsked, refusalIn, entryMove}
 use Rattle.moves.specs.Move.{isIncluded, waitsFor, askedOf, givenBack, moveOf}
 use Rattle.tables.specs.Laws.{Counted}
 use Rattle.rules.specs.Laws.{clear-counts}
-use Rattle.moves.specs.Given.{clear-head, clear-tail}
 use Rattle.rules.specs.Entries.{Named, known-named}
 use Rattle.rules.specs.Sound.{clear-sound}
 
@@ -123,17 +118,16 @@ pub unknown-person-role : (g : Graph) (m : Marking) (e : Entry) → graphVerdict
 unknown-person-role g m e clear h =
     is-not (isAllowed g m e) (λ ok.
     let n : Named g e = allowed-named g m e ok in
-    let b : Counted (g .steps) (g .people) (g .roles) = clear-counts g clear in
+    let b : Counted (g .steps) (g .people) (g .roles) (g .actions) = clear-counts g clear in
     let small : bitOr (e .person) (e .role) < 2 ^ 4 =
     or-lt 4 (e .person) (e .role) (let z : e .person < 16 = omega arith in z) (let z : e .role < 16 = omega arith in z) in
     let w : ⊥ = omega arith in w)
 
--- a step from 64 on is unknown
-pub unknown-step : (g : Graph) (m : Marking) (e : Entry) → graphVerdict g ≡ Verdict.Clear → 64 ≤ e .step .0 → isAllowed g m e ≡ false
-unknown-step g m e clear h =
+-- a step from the count on is unknown
+pub unknown-step : (g : Graph) (m : Marking) (e : Entry) → g .steps ≤ e .step .0 → isAllowed g m e ≡ false
+unknown-step g m e h =
     is-not (isAllowed g m e) (λ ok.
     let n : Named g e = allowed-named g m e ok in
-    let b : Counted (g .steps) (g .people) (g .roles) = clear-counts g clear in
     let w : ⊥ = omega arith in w)
 
 -- the role is one that the person holds and the step has
@@ -155,26 +149,11 @@ not-included g m e out =
     let rest : (p && (s && (isIncluded m e && noneWaits g m e))) ≡ true = and-right (entryKnown g e) _ (sym (allowed-parts g m e) ∙ ok) in
     true≢false (sym (and-left (isIncluded m e) _ (and-right s _ (and-right p _ rest))) ∙ out))
 
--- nothing is stored beyond the counts
-keeps-beyond : (count limit : ℕ) (table : List ℕ) → keeps count limit table ≡ true → (i : ℕ) → count ≤ i → row table i ≡ 0
-unfolding keeps
-keeps-beyond count limit table e i h = go (decLt i (length table))
-  where
-    go : Dec (i < length table) → row table i ≡ 0
-    go (yes l) =
-        let here : row table i < 2 ^ cond (ltb i count) limit 0 =
-        ltb-true (row table i) (2 ^ cond (ltb i count) limit 0)
-        (every-at (length table) (λ k. within (cond (ltb k count) limit 0) (row table k)) e i l) in
-        let bare : row table i < 2 ^ 0 = subst (λ (b : Bool). row table i < 2 ^ cond b limit 0) (le-ltb i count h) here in
-        omega arith
-    go (no l) = List·getD-eq-default table 0 (let z : length table ≤ i = omega arith in z)
-
--- so an entry whose role is held and had names what there is, and only the marking is left to ask
-pub role-left : (g : Graph) (m : Marking) (e : Entry) → graphVerdict g ≡ Verdict.Clear
+-- so an entry of a known step whose role is held and had names what there is, and only the marking is left to ask
+pub role-left : (g : Graph) (m : Marking) (e : Entry) → graphVerdict g ≡ Verdict.Clear → e .step .0 < g .steps
     → has (meet (rolesHeld g (e .person)) (rolesOf g (e .step .0))) (e .role) ≡ true → isIncluded m e ≡ true
     → isAllowed g m e ≡ noneWaits g m e
-unfolding setsFit
-role-left g m e clear both included =
+role-left g m e clear known both included =
     allowed-parts g m e
     ∙ ap (λ (b : Bool). b && (p && (s && (isIncluded m e && noneWaits g m e)))) named
     ∙ ap (λ (b : Bool). b && (s && (isIncluded m e && noneWaits g m e))) held
@@ -193,31 +172,10 @@ role-left g m e clear both included =
     had : s ≡ true
     had = and-right p s (sym (has-meet (rolesHeld g (e .person)) (rolesOf g (e .step .0)) (e .role)) ∙ both)
 
-    fit : rolesFit (g .steps) (g .people) (g .roles) (g .allows) (g .holds) ≡ true
-    fit = and-left (rolesFit (g .steps) (g .people) (g .roles) (g .allows) (g .holds)) _
-        (not-false (setsFit g) (clear-head _ _ (clear-tail _ _ clear)))
-
-    -- a set with a role in it is not empty
-    some : (x y : ℕ) → has x y ≡ true → x ≡ 0 → ⊥
-    some x y h z = true≢false (sym h ∙ ap (λ (t : ℕ). has t y) z ∙ has-zero y)
-
-    below : (i n : ℕ) → (n ≤ i → ⊥) → ltb i n ≡ true
-    below i n h = go (decLt i n)
-      where
-        go : Dec (i < n) → ltb i n ≡ true
-        go (yes l) = lt-ltb i n l
-        go (no l) = absurd (h (let z : n ≤ i = omega arith in z))
-
     named : entryKnown g e ≡ true
     named =
         and-intro
-        (and-intro
-        (below (e .person) (g .people)
-        (λ h. some (rolesHeld g (e .person)) (e .role) held
-        (keeps-beyond (g .people) (g .roles) (g .holds) (and-right (keeps (g .steps) (g .roles) (g .allows)) _ fit) (e .person) h)))
-        (below (e .step .0) (g .steps)
-        (λ h. some (rolesOf g (e .step .0)) (e .role) had
-        (keeps-beyond (g .steps) (g .roles) (g .allows) (and-left (keeps (g .steps) (g .roles) (g .allows)) _ fit) (e .step .0) h))))
-        (below (e .role) (g .roles)
-        (λ h. true≢false (sym held
-        ∙ has-above (g .roles) (rolesHeld g (e .person)) (e .role) (clear-sound g clear .rolesHeld-in (e .person)) h)))
+        (and-intro (lt-ltb (e .person) (g .people) (clear-sound g clear .holder-known (e .person) (e .role) held))
+        (lt-ltb (e .step .0) (g .steps) known))
+        (lt-ltb (e .role) (g .roles)
+        (member-below (g .roles) (rolesHeld g (e .person)) (e .role) (clear-sound g clear .rolesHeld-in (e .person)) held))

@@ -87,7 +87,8 @@ pub const SINGLES: [u64; 64] = [
     9223372036854775808,
 ];
 
-// Is the entry allowed? A person or role below 16 and a step below 64 that are not there have empty rows, so the counts are not asked.
+// Is the entry allowed? A person or role below 16 that is not there has an empty row, so these counts are not asked. Those of steps
+// are: a step that is not there has action 0, and that may have roles.
 pub fn allowed<'a, 'b>(singles: &'b [u64; 64], g: &'a Job, m: Marking, e: Entry) -> bool
     requires { ⌜ (graphVerdict (graphOf (now g)) ≡ Verdict.Clear) × Singles (now singles) ⌝ }
     ensures { λ r. ⌜ r ≡ isAllowed (graphOf (now (g .entry))) m e ⌝ }
@@ -98,7 +99,7 @@ pub fn allowed<'a, 'b>(singles: &'b [u64; 64], g: &'a Job, m: Marking, e: Entry)
     if 16 <= (p | r) {
         return false;
     }
-    if 64 <= s {
+    if g[0] <= s as u64 {
         return false;
     }
     let w = row_at(g, p, s);

@@ -39,11 +39,11 @@ use Rattle.kept.proofs.Kept.Laws as S′
 -- ---- the parameters behind the marking: the job, lent at one lifetime, and the entry
 
 abbrev pub Words : RattleType
-Words = Array u64 tt 339
+Words = Array u64 tt 404
 
 -- the job's place in a signature of n lifetimes
 abbrev pub words : (n : ℕ) → Slot n
-words n = ArrayOf (plain (λ κs. u64)) (λ κs. tt) 339
+words n = ArrayOf (plain (λ κs. u64)) (λ κs. tt) 404
 
 abbrev pub Rs : Lifetime → Lft → List RattleType
 Rs ν κ = ShrRef ν κ Words ∷ E.the-row ∷ []

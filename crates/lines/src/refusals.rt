@@ -12,8 +12,8 @@ fn say_low_words(page: &mut Page, number: u8) {
     match number {
         1 => say(page, b"not laid out as a sheet"),
         2 => say(page, b"a count is out of range"),
-        3 => say(page, b"the role sets of the sheet do not fit its counts"),
-        4 => say(page, b"a set names something that the counts do not have"),
+        3 => say(page, b"the bodies of the sheet do not fit its counts"),
+        4 => say(page, b"something is named that the counts do not have"),
         5 => say(page, b"an arrow of the sheet is wrong or out of order"),
         6 => say(page, b"a step includes and excludes the same step"),
         7 => say(
@@ -30,7 +30,7 @@ fn say_high_words(page: &mut Page, number: u8) {
     match number {
         11 => say(page, b"no such person, step or role"),
         12 => say(page, b"the person does not hold this role"),
-        13 => say(page, b"the step does not have this role"),
+        13 => say(page, b"the step's action does not have this role"),
         14 => say(page, b"the step is not included"),
         15 => say(page, b"the step waits for steps that are not done"),
         16 => say(page, b"the record does not apply to the marking"),

@@ -2,11 +2,13 @@
 ghost use mathlib.Core.Path.{_≡_};
 ghost use Prim.Native.Nat.{_≤_};
 ghost use mathlib.Core.Bool.{true};
-ghost use lib.ListN.{length, replicate};
+ghost use lib.ListN.{length, getD, replicate};
 ghost use Rattle.moves.specs.declared.Verdict.{Verdict};
 ghost use Rattle.arrows.specs.Arrows.{tableOf};
-ghost use Rattle.reading.specs.Reading.{countsOf, firstOf, arrowsOn, blockRead};
-ghost use Rattle.reading.specs.Reading.{layoutFits, bodiesMatch, setsInside, arrowsRight, kindsRight, readVerdict};
+ghost use Rattle.numbers.specs.Numbers.{Spliced};
+ghost use Rattle.bodies.specs.Bodies.{labelsIn};
+ghost use Rattle.reading.specs.Reading.{formOf, countsOf, firstOf, arrowsOn, labelsPart, ownSteps, blockRead};
+ghost use Rattle.reading.specs.Reading.{layoutFits, labelsMatch, bodiesMatch, setsInside, arrowsRight, kindsRight, readVerdict};
 ghost use Rattle.reading.specs.Laws.{Placed, Opened, Matched};
 ghost use Rattle.reading.specs.Judged.{Judged};
 use bodies::Counts;
@@ -15,26 +17,64 @@ use moves::Refusal;
 use moves::Verdict;
 use rules::CONDITIONS;
 
+// A form of sheet: how many bodies it has, the bytes of body 1 and which of them counts the actions, the least and the most bytes.
+pub struct Form {
+    pub bodies: usize,
+    pub counts: usize,
+    pub actions: usize,
+    pub least: usize,
+    pub most: usize,
+}
+
+const SIX: Form = Form {
+    bodies: 6,
+    counts: 4,
+    actions: 3,
+    least: 35,
+    most: 37147,
+};
+
+const FIVE: Form = Form {
+    bodies: 5,
+    counts: 3,
+    actions: 0,
+    least: 29,
+    most: 37077,
+};
+
+// The form that byte 0 says.
+pub fn form_of(s: &[u8]) -> Form
+    requires { ⌜ 1 ≤ length (now s) ⌝ }
+    ensures { λ r. ⌜ r ≡ formOf (now (s .entry)) ⌝ }
+{
+    if s[0] == 6 { SIX } else { FIVE }
+}
+
 fn layout_fits(s: &[u8]) -> bool
     ensures { λ r. ⌜ r ≡ layoutFits (now (s .entry)) ⌝ }
 {
     if s.len() < 29 {
         return false;
     }
-    if 37077 < s.len() {
+    let f = form_of(s);
+    if s.len() < f.least {
         return false;
     }
-    if !layout::fits(s, 5) {
+    if f.most < s.len() {
         return false;
     }
-    (layout::size(s, 0) == 3) & (layout::size(s, 1) == 24) & (layout::size(s, 4) % 3 == 0)
+    if !layout::fits(s, f.bodies) {
+        return false;
+    }
+    (layout::size(s, 0) == f.counts) & (layout::size(s, 1) == 24) & (layout::size(s, 4) % 3 == 0)
 }
 
 fn counts(s: &[u8]) -> Counts
     requires { ⌜ Placed (now s) ⌝ }
     ensures { λ r. ⌜ r ≡ countsOf (now (s .entry)) ⌝ }
 {
-    bodies::read_counts(layout::body(s, 0))
+    let f = form_of(s);
+    bodies::read_counts(layout::body(s, 0), f.actions)
 }
 
 pub fn first_marking(s: &[u8]) -> Marking
@@ -44,11 +84,45 @@ pub fn first_marking(s: &[u8]) -> Marking
     bodies::read_marking(layout::body(s, 1))
 }
 
+// Is body 6, where there is one, of the length that the counts ask for?
+fn labels_match(s: &[u8], c: Counts) -> bool
+    requires { ⌜ Opened (now s) c ⌝ }
+    ensures { λ r. ⌜ r ≡ labelsMatch (now (s .entry)) ⌝ }
+{
+    if s[0] == 6 {
+        layout::size(s, 5) == c.steps as usize
+    } else {
+        true
+    }
+}
+
 fn bodies_match(s: &[u8], c: Counts) -> bool
     requires { ⌜ Opened (now s) c ⌝ }
     ensures { λ r. ⌜ r ≡ bodiesMatch (now (s .entry)) ⌝ }
 {
-    (layout::size(s, 2) == 2 * (c.steps as usize)) & (layout::size(s, 3) == 2 * (c.people as usize))
+    (layout::size(s, 2) == 2 * (c.actions as usize))
+        & (layout::size(s, 3) == 2 * (c.people as usize))
+        & labels_match(s, c)
+}
+
+// Body 6; nothing of a sheet that has none.
+fn labels_part(s: &[u8]) -> &[u8]
+    requires { ⌜ Placed (now s) ⌝ }
+    ensures { λ r. ⌜ now r ≡ labelsPart (now (s .entry)) ⌝ }
+{
+    if s[0] == 6 {
+        layout::body(s, 5)
+    } else {
+        &s[0..0]
+    }
+}
+
+// How many steps are their own actions: all where no body says which they have.
+fn own_steps(s: &[u8], c: Counts) -> usize
+    requires { ⌜ Opened (now s) c ⌝ }
+    ensures { λ r. ⌜ r ≡ ownSteps (now (s .entry)) ⌝ }
+{
+    if s[0] == 6 { 0 } else { c.steps as usize }
 }
 
 fn sets_inside(s: &[u8], c: Counts) -> bool
@@ -58,6 +132,7 @@ fn sets_inside(s: &[u8], c: Counts) -> bool
     moves::inner::fits(c.steps, first_marking(s))
         & bodies::role_sets_fit(layout::body(s, 2), c.roles)
         & bodies::role_sets_fit(layout::body(s, 3), c.roles)
+        & bodies::actions_fit(labels_part(s), c.actions)
 }
 
 // The table, empty at first, holds the arrows if they are right.
@@ -93,7 +168,7 @@ pub fn judge(s: &[u8], table: &mut [u64; 256]) -> Verdict
         return Verdict::Refused(Refusal::Layout);
     }
     let c = counts(s);
-    if !tables::counts_fit(c.steps, c.people, c.roles) {
+    if !tables::counts_fit(c.steps, c.people, c.roles, c.actions) {
         return Verdict::Refused(Refusal::Counts);
     }
     if !bodies_match(s, c) {
@@ -113,14 +188,16 @@ pub fn judge(s: &[u8], table: &mut [u64; 256]) -> Verdict
 
 // Fills the block with a sheet that nothing is against, word after word. The table holds the arrows.
 pub fn fill(s: &[u8], table: &[u64; 256], block: &mut [u64])
-    requires { ⌜ (readVerdict (now s) ≡ Verdict.Clear) × (length (now block) ≡ 339) × (now table ≡ tableOf (arrowsOn (now s))) ⌝ }
+    requires { ⌜ (readVerdict (now s) ≡ Verdict.Clear) × (length (now block) ≡ 404) × (now table ≡ tableOf (arrowsOn (now s))) ⌝ }
     ensures { λ r. ⌜ now (block .exit) ≡ blockRead (now (s .entry)) ⌝ }
 {
     let c = counts(s);
     block[0] = c.steps;
     block[1] = c.people;
     block[2] = c.roles;
-    let a = bodies::copy(table, block, CONDITIONS);
-    let b = bodies::read_roles(layout::body(s, 2), 64, block, a);
-    bodies::read_roles(layout::body(s, 3), 16, block, b);
+    block[3] = c.actions;
+    let x = bodies::copy(table, block, CONDITIONS);
+    let y = bodies::read_roles(layout::body(s, 2), 64, block, x);
+    let z = bodies::read_roles(layout::body(s, 3), 16, block, y);
+    bodies::read_labels(labels_part(s), own_steps(s, c), 64, block, z);
 }

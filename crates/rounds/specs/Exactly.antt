@@ -1,12 +1,13 @@
--- A job with its first marking has exactly one sheet: a list of bytes says them if and only if it is what is written of them. Every part
--- of a sheet is made of numbers as bytes, and of arrows whose kinds and steps are below 64. Assumes that a block has 339 words.
+-- A job with its first marking has exactly one sheet of six bodies: a list of bytes with these says them if and only if it is what is
+-- written of them. Every part of a sheet is made of numbers as bytes, and of arrows whose kinds and steps are below 64. Assumes that a
+-- block has 404 words.
 use Prim.Native.Nat.{ℕ, zero, suc, _+_, _/_, _%_, _≤_, _<_}
-use mathlib.Core.Path.{_≡_, sym, subst}
+use mathlib.Core.Path.{_≡_, sym, ap, _∙_, subst}
 use mathlib.Core.Logic.{_↔_}
 use mathlib.Core.List.{List, [], _∷_, _++_, map}
 use mathlib.Core.Bool.{Bool, true, false}
 use native.Mathlib.Omega.{arith}
-use lib.ListN.{length}
+use lib.ListN.{length, getD}
 use lib.Dec.{lit<}
 use Rattle.moves.specs.declared.Marking.{Marking}
 use Rattle.moves.specs.declared.Verdict.{Verdict}
@@ -14,13 +15,14 @@ use Rattle.moves.specs.First.{first}
 use Rattle.tables.specs.Tables.{row}
 use Rattle.rules.specs.Graph.{Graph, graphOf}
 use Rattle.numbers.specs.Numbers.{bytes, Bytes}
-use Rattle.arrows.specs.Arrows.{spelt, held, arrowAt, keptIf, listed, arrowsOf, arrowsBody}
+use Rattle.arrows.specs.Arrows.{spelt, held, arrowAt, keptIf, listed, arrowsOf}
 use Rattle.layout.specs.Layout.{contents, joined, start, front}
-use Rattle.bodies.specs.Bodies.{countsBody, markingBody, rolesBody}
+use Rattle.bodies.specs.Bodies.{rowsBody}
+use Rattle.reading.specs.Reading.{isSix}
 use Rattle.writing.specs.Writing.{arrowTable, bodiesOf, sheetBytes, contentLines}
 use Rattle.rounds.specs.Says.{Says}
 use Rattle.rounds.specs.Read.{read-written}
-use Rattle.rounds.specs.Write.{one-sheet}
+use Rattle.rounds.specs.Write.{sheet-six, one-sheet}
 
 -- ---- what is written is bytes
 
@@ -53,11 +55,11 @@ contents-bytes kind offset (size ∷ rest) =
     append-bytes (bytes 1 kind ++ (bytes 2 offset ++ bytes 2 size)) (contents (kind + 1) (offset + size) rest)
     (three-bytes 1 2 2 kind offset size) (contents-bytes (kind + 1) (offset + size) rest)
 
-roles-bytes : (n : ℕ) (table : List ℕ) → Bytes (rolesBody n table)
-unfolding rolesBody
-roles-bytes zero table = none-bytes
-roles-bytes (suc k) table =
-    append-bytes (rolesBody k table) (bytes 2 (row table k)) (roles-bytes k table) (number-is-bytes 2 (row table k))
+rows-bytes : (w n : ℕ) (table : List ℕ) → Bytes (rowsBody w n table)
+unfolding rowsBody
+rows-bytes w zero table = none-bytes
+rows-bytes w (suc k) table =
+    append-bytes (rowsBody w k table) (bytes w (row table k)) (rows-bytes w k table) (number-is-bytes w (row table k))
 
 -- the places below 16,384 are those of arrows that fit three bytes
 places-bytes : (k s : ℕ) (f : ℕ → Bool) → s + k ≤ 16384 → Bytes (spelt (map arrowAt (listed k s f)))
@@ -76,32 +78,41 @@ arrows-bytes : (rows : ℕ → ℕ) → Bytes (spelt (arrowsOf rows))
 unfolding arrowsOf
 arrows-bytes rows = places-bytes 16384 0 (λ p. held rows (arrowAt p)) (omega arith)
 
+joined-bytes : (bodies : List (List ℕ)) → ((i : ℕ) → Bytes (getD bodies i [])) → Bytes (joined bodies)
+unfolding joined
+joined-bytes [] all = none-bytes
+joined-bytes (body ∷ rest) all = append-bytes body (joined rest) (all 0) (joined-bytes rest (λ i. all (suc i)))
+
+body-bytes : (g : Graph) (m : Marking) (i : ℕ) → Bytes (getD (bodiesOf g m) i [])
+body-bytes g m zero =
+    append-bytes (bytes 1 (g .steps)) (bytes 1 (g .people) ++ (bytes 1 (g .roles) ++ bytes 1 (g .actions))) (number-is-bytes 1 (g .steps))
+    (three-bytes 1 1 1 (g .people) (g .roles) (g .actions))
+body-bytes g m (suc zero) = three-bytes 8 8 8 (m .done) (m .due) (m .included)
+body-bytes g m (suc (suc zero)) = rows-bytes 2 (g .actions) (g .allows)
+body-bytes g m (suc (suc (suc zero))) = rows-bytes 2 (g .people) (g .holds)
+body-bytes g m (suc (suc (suc (suc zero)))) = arrows-bytes (row (arrowTable g))
+body-bytes g m (suc (suc (suc (suc (suc zero))))) = rows-bytes 1 (g .steps) (g .labels)
+body-bytes g m (suc (suc (suc (suc (suc (suc i)))))) = none-bytes
+
 pub sheet-is-bytes : (g : Graph) (m : Marking) → Bytes (sheetBytes g m)
-unfolding sheetBytes joined
+unfolding sheetBytes
 sheet-is-bytes g m =
     let sizes : List ℕ = map length (bodiesOf g m) in
-    let counts : List ℕ = countsBody (g .steps) (g .people) (g .roles) in
-    let allows : List ℕ = rolesBody (g .steps) (g .allows) in
-    let holds : List ℕ = rolesBody (g .people) (g .holds) in
-    let arrows : List ℕ = arrowsBody (arrowTable g) in
-    let front-bytes = append-bytes (bytes 1 (length sizes)) (contents 1 (start (length sizes)) sizes) (number-is-bytes 1 (length sizes))
-    (contents-bytes 1 (start (length sizes)) sizes) in
-    append-bytes (front sizes) (counts ++ (markingBody m ++ (allows ++ (holds ++ (arrows ++ []))))) front-bytes
-    (append-bytes counts (markingBody m ++ (allows ++ (holds ++ (arrows ++ [])))) (three-bytes 1 1 1 (g .steps) (g .people) (g .roles))
-    (append-bytes (markingBody m) (allows ++ (holds ++ (arrows ++ []))) (three-bytes 8 8 8 (m .done) (m .due) (m .included))
-    (append-bytes allows (holds ++ (arrows ++ [])) (roles-bytes (g .steps) (g .allows))
-    (append-bytes holds (arrows ++ []) (roles-bytes (g .people) (g .holds))
-    (append-bytes arrows [] (arrows-bytes (row (arrowTable g))) none-bytes)))))
+    append-bytes (front sizes) (joined (bodiesOf g m))
+    (append-bytes (bytes 1 (length sizes)) (contents 1 (start (length sizes)) sizes) (number-is-bytes 1 (length sizes))
+    (contents-bytes 1 (start (length sizes)) sizes))
+    (joined-bytes (bodiesOf g m) (body-bytes g m))
 
 -- ---- exactly one sheet
 
-pub exactly-one : (block : List ℕ) (m : Marking) → length block ≡ 339 → first (contentLines (graphOf block) m) ≡ Verdict.Clear
+pub exactly-one : (block : List ℕ) (m : Marking) → length block ≡ 404 → first (contentLines (graphOf block) m) ≡ Verdict.Clear
     → (s : List ℕ)
-    → (Bytes s × Says s block m) ↔ (s ≡ sheetBytes (graphOf block) m)
+    → (Bytes s × (isSix s ≡ true) × Says s block m) ↔ (s ≡ sheetBytes (graphOf block) m)
 exactly-one block m whole e s = (
-  λ p. one-sheet s block m (p .0) (p .1),
+  λ p. one-sheet s block m (p .0) (p .1) (p .2),
   λ q. (
     subst Bytes (sym q) (sheet-is-bytes (graphOf block) m),
+    ap isSix q ∙ sheet-six (graphOf block) m,
     subst (λ (t : List ℕ). Says t block m) (sym q) (read-written block m whole e),
   ),
 )

@@ -8,6 +8,7 @@ pub mod Longest
 pub mod Read
 pub mod Write
 pub mod Exactly
+pub mod Five
 pub mod Ascent
 pub mod Contents
 pub mod Said

@@ -1,9 +1,10 @@
--- The longest sheet has 37,077 bytes. Every part but the arrows has a length by the counts; a table has at most 64 arrows from each of 64
--- steps, and includes and excludes, which share no pair, have together no more than one table. One graph reaches it. Assumes nothing.
+-- The longest sheet that is written has 37,147 bytes, the shortest 64. Every part but the arrows has a length by the counts; a table has
+-- at most 64 arrows from each of 64 steps, and includes and excludes, which share no pair, have together no more than one table. One graph
+-- reaches it. A sheet of five bodies that is read has at most 37,077, since the reader asks for that. Assumes nothing.
 use Prim.Native.Nat.{ℕ, zero, suc, _+_, _*_, _≤_, _<_}
-use mathlib.Core.Path.{_≡_, refl, sym, ap, _∙_}
+use mathlib.Core.Path.{_≡_, refl, sym, ap, _∙_, subst}
 use mathlib.Core.List.{List, _∷_, _++_}
-use mathlib.Core.Bool.{true, true≢false}
+use mathlib.Core.Bool.{true, false, true≢false}
 use native.Mathlib.Omega.{arith}
 use lib.ListN.{length, replicate}
 use Rattle.sets.specs.Sets.{has, full, meet, empty, every}
@@ -13,12 +14,15 @@ use Rattle.moves.specs.declared.Marking.{Marking}
 use Rattle.moves.specs.declared.Verdict.{Verdict}
 use Rattle.moves.specs.First.{first}
 use Rattle.moves.specs.Move.{noMarking}
-use Rattle.tables.specs.Tables.{row, keeps}
+use Rattle.tables.specs.Tables.{row, keeps, labelsFit}
 use Rattle.rules.specs.Graph.{Graph, graphOf, setsFit}
 use Rattle.arrows.specs.Arrows.{put, putAll, listed}
 use Rattle.arrows.specs.Lists.{listed-apart}
 use Rattle.arrows.specs.Rows.{members, kindArrows, countOf, turned, kindRows, fromRows, countKinds}
 use Rattle.arrows.specs.Loops.{count-most, length-body}
+use Rattle.reading.specs.declared.Form.{Form}
+use Rattle.reading.specs.Reading.{isSix, readVerdict}
+use Rattle.reading.specs.Laws.{clear-right, form-five}
 use Rattle.writing.specs.Writing.{arrowTable, sheetBytes, contentLines}
 use Rattle.writing.specs.Laws.{Fitting, clear-fitting, graph-clear, turnedOf, table-kept, kind-lies}
 use Rattle.writing.specs.Parts.{arrowsOut, lengthOut, sheet-length}
@@ -42,7 +46,7 @@ arrows-long block m e =
     length-body (row block 0) (turnedOf g) (arrowTable g) (table-kept block (graph-clear g m e)) refl
 
 pub longest : (block : List ℕ) (m : Marking) → first (contentLines (graphOf block) m) ≡ Verdict.Clear
-    → length (sheetBytes (graphOf block) m) ≤ 37077
+    → length (sheetBytes (graphOf block) m) ≤ 37147
 unfolding countKinds fromRows
 longest block m e =
     let g : Graph = graphOf block in
@@ -65,20 +69,38 @@ longest block m e =
     (every-at n (λ a. empty (meet (row (g .includes) a) (row (g .excludes) a))) (f .apart)) in
     let steps : row block 0 ≤ 64 = f .counted .steps-most in
     let people : row block 1 ≤ 16 = f .counted .people-most in
+    let actions : row block 3 ≤ 64 = f .counted .actions-most in
     omega arith
+
+pub shortest : (block : List ℕ) (m : Marking) → first (contentLines (graphOf block) m) ≡ Verdict.Clear
+    → 64 ≤ length (sheetBytes (graphOf block) m)
+shortest block m e =
+    let g : Graph = graphOf block in
+    let f : Fitting (graphOf block) = clear-fitting g (graph-clear g m e) in
+    let size : length (sheetBytes (graphOf block) m) ≡ lengthOut (graphOf block) = sheet-length g m in
+    let steps : 1 ≤ row block 0 = f .counted .steps-some in
+    let people : 1 ≤ row block 1 = f .counted .people-some in
+    let actions : 1 ≤ row block 3 = f .counted .actions-some in
+    omega arith
+
+-- of five bodies
+pub longest-five : (s : List ℕ) → readVerdict s ≡ Verdict.Clear → isSix s ≡ false → length s ≤ 37077
+longest-five s e five = subst (λ (f : Form). length s ≤ f .most) (form-five s five) (clear-right s e .opened .placed .short)
 
 -- ---- and it is reached
 
--- 64 steps, each waiting for each, with each its response and included by it; no roles, and no excludes
+-- 64 steps, each waiting for each, with each its response and included by it; 64 actions, of which every step has the first; no role is
+-- given, and there are no excludes
 unfoldable pub longestBlock : List ℕ
-longestBlock = 64 ∷ 16 ∷ 16 ∷ (replicate 192 (full 64) ++ replicate 144 0)
+longestBlock = 64 ∷ 16 ∷ 16 ∷ 64 ∷ (replicate 192 (full 64) ++ replicate 208 0)
 
 pub longest-clear : first (contentLines (graphOf longestBlock) noMarking) ≡ Verdict.Clear
-unfolding longestBlock first setsFit keeps every full
+unfolding longestBlock first setsFit keeps labelsFit every full
 longest-clear = refl
 
-pub longest-reached : length (sheetBytes (graphOf longestBlock) noMarking) ≡ 37077
+pub longest-reached : length (sheetBytes (graphOf longestBlock) noMarking) ≡ 37147
 unfolding longestBlock full turned kindArrows countOf countKinds fromRows putAll put listed has
 longest-reached =
     let g : Graph = graphOf longestBlock in
-    sheet-length g noMarking ∙ ap (λ (n : ℕ). 53 + 2 * g .steps + 2 * g .people + n) (arrows-long longestBlock noMarking longest-clear)
+    sheet-length g noMarking
+    ∙ ap (λ (n : ℕ). 59 + 2 * g .actions + 2 * g .people + g .steps + n) (arrows-long longestBlock noMarking longest-clear)

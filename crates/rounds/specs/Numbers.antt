@@ -79,9 +79,9 @@ module _ (g : Graph) (m : Marking) (room : ℕ) where
   unfolding writeVerdict
   write-nothing = nothing-exactly (writeLines g m room) (write-up g m room)
 
-  pub write-2 : holds 2 (writeLines g m room) ≡ not (countsFit (g .steps) (g .people) (g .roles))
+  pub write-2 : holds 2 (writeLines g m room) ≡ not (countsFit (g .steps) (g .people) (g .roles) (g .actions))
   unfolding holds numberOf
-  write-2 = or-false (not (countsFit (g .steps) (g .people) (g .roles)))
+  write-2 = or-false (not (countsFit (g .steps) (g .people) (g .roles) (g .actions)))
 
   pub write-4 : holds 4 (writeLines g m room) ≡ not (setsFit g && markingFits (g .steps) m)
   unfolding holds numberOf

@@ -1,8 +1,8 @@
 -- Reading what was written gives the job and its first marking. The contents of a sheet lead to the bodies that it was laid out from; each
--- body is read back; and what stands for writing (2, 4, 6) is what the reader asks for (1 to 6). Assumes that a block has 339 words, as
+-- body is read back; and what stands for writing (2, 4, 6) is what the reader asks for (1 to 6). Assumes that a block has 404 words, as
 -- every lent one has.
 use Prim.Native.Nat.{ℕ, _*_, _^_, _≤_, _<_}
-use mathlib.Core.Path.{_≡_, sym, ap, ap₂, _∙_}
+use mathlib.Core.Path.{_≡_, sym, ap, ap₂, _∙_, subst}
 use mathlib.Core.List.{List, [], _∷_, _++_}
 use mathlib.Core.Bool.{true}
 use native.Mathlib.Nat.{lt-of-lt-of-le}
@@ -10,7 +10,7 @@ use native.Mathlib.Omega.{arith}
 use lib.ListN.{length, getD}
 use lib.Pow.{pow-mono}
 use borrow.Author.Tests.{eq-eqb, not-false}
-use Rattle.sets.specs.Truth.{and-intro}
+use Rattle.sets.specs.Truth.{and-left, and-intro}
 use Rattle.moves.specs.declared.Marking.{Marking}
 use Rattle.moves.specs.declared.Verdict.{Verdict}
 use Rattle.moves.specs.First.{first}
@@ -23,45 +23,47 @@ use Rattle.rules.specs.Graph.{Graph, graphOf}
 use Rattle.rules.specs.Block.{kinds-joined, block-whole}
 use Rattle.arrows.specs.Arrows.{Arrow, linkInOrder, arrowsIn, tableOf, arrowsOf, arrowsBody}
 use Rattle.arrows.specs.Places.{arrowsIn-spelt, length-spelt}
-use Rattle.layout.specs.Layout.{contentsFit, offsetAt, sizeAt, bodyAt}
+use Rattle.layout.specs.Layout.{start, follows, contentsFit, offsetAt, sizeAt, bodyAt}
 use Rattle.layout.specs.Lists.{length-part}
 use Rattle.layout.specs.Laws.{bodiesFrom, laid-fits, laid-bodies}
 use Rattle.bodies.specs.declared.Counts.{Counts}
 use Rattle.bodies.specs.Bodies.{countsBody, countsIn, markingBody, markingIn, rolesBody, setsIn, roleSetsFit}
-use Rattle.bodies.specs.Laws.{length-counts, length-marking, length-roles}
-use Rattle.reading.specs.Reading.{countsOf, firstOf, arrowsOn, blockRead}
+use Rattle.bodies.specs.Bodies.{labelsBody, labelsIn, actionsFit}
+use Rattle.bodies.specs.Laws.{length-counts, length-marking, length-rows}
+use Rattle.reading.specs.declared.Form.{Form}
+use Rattle.reading.specs.Reading.{sixBodies, isSix, formOf, countsOf, firstOf, arrowsOn, labelsPart, ownSteps, blockRead}
 use Rattle.reading.specs.Reading.{layoutFits, countsRight, bodiesMatch, setsInside, arrowsRight, kindsRight, readVerdict}
-use Rattle.reading.specs.Laws.{contents-inside}
+use Rattle.reading.specs.Laws.{contents-inside, form-six, labels-six, own-six, match-six}
 use Rattle.writing.specs.Writing.{arrowTable, bodiesOf, sheetBytes, contentLines}
 use Rattle.writing.specs.Laws.{Fitting, clear-fitting, graph-clear, marking-clear, part-kept}
-use Rattle.writing.specs.Parts.{lengthOut, sheet-length}
 use Rattle.rounds.specs.Says.{Says}
 use Rattle.rounds.specs.Tests.{layout-exactly}
-use Rattle.rounds.specs.Bodies.{counts-read, marking-read, kept-roles, roles-read, roles-fit}
+use Rattle.rounds.specs.Bodies.{counts-read, marking-read, rows-read, kept-roles, roles-fit, kept-labels, labels-rows, labels-fit}
 use Rattle.rounds.specs.Arrows.{table-fit, table-read}
-use Rattle.rounds.specs.Longest.{longest}
+use Rattle.rounds.specs.Longest.{longest, shortest}
 
 -- the contents fit, and lead to the bodies of the graph and the marking
 record Carries (g : Graph) (m : Marking) (s : List ℕ) : Type 0 where
-  fits : contentsFit 5 s ≡ true
-  long : 29 ≤ length s
-  short : length s ≤ 37077
-  one : bodyAt s 0 ≡ countsBody (g .steps) (g .people) (g .roles)
+  fits : contentsFit 6 s ≡ true
+  long : 35 ≤ length s
+  short : length s ≤ 37147
+  one : bodyAt s 0 ≡ countsBody (g .steps) (g .people) (g .roles) (g .actions)
   two : bodyAt s 1 ≡ markingBody m
-  three : bodyAt s 2 ≡ rolesBody (g .steps) (g .allows)
+  three : bodyAt s 2 ≡ rolesBody (g .actions) (g .allows)
   four : bodyAt s 3 ≡ rolesBody (g .people) (g .holds)
   five : bodyAt s 4 ≡ arrowsBody (arrowTable g)
+  six : bodyAt s 5 ≡ labelsBody (g .steps) (g .labels)
 
 carried : (block : List ℕ) (m : Marking) → first (contentLines (graphOf block) m) ≡ Verdict.Clear
     → Carries (graphOf block) m (sheetBytes (graphOf block) m)
 unfolding sheetBytes bodiesFrom
 carried block m e =
     let g : Graph = graphOf block in
-    let size : length (sheetBytes (graphOf block) m) ≡ lengthOut (graphOf block) = sheet-length g m in
-    let most : length (sheetBytes (graphOf block) m) ≤ 37077 = longest block m e in
+    let least : 64 ≤ length (sheetBytes (graphOf block) m) = shortest block m e in
+    let most : length (sheetBytes (graphOf block) m) ≤ 37147 = longest block m e in
     let small : length (sheetBytes (graphOf block) m) < 65536 = omega arith in
     let few : length (bodiesOf (graphOf block) m) < 256 = omega arith in
-    let bodies : bodiesFrom 5 0 (sheetBytes (graphOf block) m) ≡ bodiesOf (graphOf block) m = laid-bodies (bodiesOf g m) small few in
+    let bodies : bodiesFrom 6 0 (sheetBytes (graphOf block) m) ≡ bodiesOf (graphOf block) m = laid-bodies (bodiesOf g m) small few in
     record {
       fits = laid-fits (bodiesOf g m) small few;
       long = omega arith;
@@ -71,9 +73,10 @@ carried block m e =
       three = ap (λ (l : List (List ℕ)). getD l 2 []) bodies;
       four = ap (λ (l : List (List ℕ)). getD l 3 []) bodies;
       five = ap (λ (l : List (List ℕ)). getD l 4 []) bodies;
+      six = ap (λ (l : List (List ℕ)). getD l 5 []) bodies;
     }
 
-module _ (block : List ℕ) (m : Marking) (whole : length block ≡ 339) (e : first (contentLines (graphOf block) m) ≡ Verdict.Clear)
+module _ (block : List ℕ) (m : Marking) (whole : length block ≡ 404) (e : first (contentLines (graphOf block) m) ≡ Verdict.Clear)
     (s : List ℕ) (k : Carries (graphOf block) m s) where
   abbrev g : Graph
   g = graphOf block
@@ -81,14 +84,22 @@ module _ (block : List ℕ) (m : Marking) (whole : length block ≡ 339) (e : fi
   fitting : Fitting (graphOf block)
   fitting = clear-fitting (graphOf block) (graph-clear (graphOf block) m e)
 
+  is-six : isSix s ≡ true
+  is-six = and-left (isSix s) (follows 6 0 (start 6) s) (k .fits)
+
+  form : formOf s ≡ sixBodies
+  form = form-six s is-six
+
   -- ---- what is read
 
-  counts-back : countsOf s ≡ record { steps = g .steps; people = g .people; roles = g .roles }
+  counts-back : countsOf s ≡ record { steps = g .steps; people = g .people; roles = g .roles; actions = g .actions }
   counts-back =
       let a : row block 0 ≤ 64 = fitting .counted .steps-most in
       let b : row block 1 ≤ 16 = fitting .counted .people-most in
       let c : row block 2 ≤ 16 = fitting .counted .roles-most in
-      ap countsIn (k .one) ∙ counts-read (g .steps) (g .people) (g .roles) (omega arith) (omega arith) (omega arith)
+      let d : row block 3 ≤ 64 = fitting .counted .actions-most in
+      ap₂ (λ (f : Form) (body : List ℕ). countsIn (f .actions) body) form (k .one)
+      ∙ counts-read (g .steps) (g .people) (g .roles) (g .actions) (omega arith) (omega arith) (omega arith) (omega arith)
 
   first-back : firstOf s ≡ m
   first-back =
@@ -97,98 +108,109 @@ module _ (block : List ℕ) (m : Marking) (whole : length block ≡ 339) (e : fi
       ap markingIn (k .two)
       ∙ marking-read m (lt-of-lt-of-le (i .done-in) in-word) (lt-of-lt-of-le (i .due-in) in-word) (lt-of-lt-of-le (i .included-in) in-word)
 
-  allows-rows : length (tableAt 259 64 block) ≡ 64
-  allows-rows = rows-at 259 64 block (omega arith)
-
-  holds-rows : length (tableAt 323 16 block) ≡ 16
-  holds-rows = rows-at 323 16 block (omega arith)
-
   allows-back : setsIn 64 (bodyAt s 2) ≡ g .allows
   allows-back =
       ap (setsIn 64) (k .three)
-      ∙ roles-read (g .steps) 64 (g .allows) allows-rows
-      (kept-roles (g .steps) (g .roles) (g .allows) (fitting .counted .roles-most) (fitting .allows-kept))
+      ∙ rows-read 2 (g .actions) 64 (g .allows) (rows-at 260 64 block (omega arith))
+      (kept-roles (g .actions) (g .roles) (g .allows) (fitting .counted .roles-most) (fitting .allows-kept))
 
   holds-back : setsIn 16 (bodyAt s 3) ≡ g .holds
   holds-back =
       ap (setsIn 16) (k .four)
-      ∙ roles-read (g .people) 16 (g .holds) holds-rows
+      ∙ rows-read 2 (g .people) 16 (g .holds) (rows-at 324 16 block (omega arith))
       (kept-roles (g .people) (g .roles) (g .holds) (fitting .counted .roles-most) (fitting .holds-kept))
 
-  arrows-back : arrowsOn s ≡ arrowsOf (row (tableAt 3 256 block))
+  labels-part : labelsPart s ≡ labelsBody (g .steps) (g .labels)
+  labels-part = labels-six s is-six ∙ k .six
+
+  labels-back : labelsIn 64 (ownSteps s) (labelsPart s) ≡ g .labels
+  labels-back =
+      ap₂ (labelsIn 64) (own-six s is-six) labels-part
+      ∙ labels-rows 64 (labelsBody (g .steps) (g .labels))
+      ∙ rows-read 1 (g .steps) 64 (g .labels) (rows-at 340 64 block (omega arith))
+      (kept-labels (g .steps) (g .actions) (g .labels) (fitting .counted .actions-some) (fitting .counted .actions-most)
+      (fitting .labels-kept))
+
+  arrows-back : arrowsOn s ≡ arrowsOf (row (tableAt 4 256 block))
   arrows-back =
       ap arrowsIn (k .five)
       ∙ arrowsIn-spelt (arrowsOf (row (arrowTable g)))
       ∙ ap (λ (t : List ℕ). arrowsOf (row t)) (kinds-joined block)
 
-  table-back : tableOf (arrowsOn s) ≡ tableAt 3 256 block
+  table-back : tableOf (arrowsOn s) ≡ tableAt 4 256 block
   table-back =
       ap tableOf arrows-back
-      ∙ table-read (g .steps) (tableAt 3 256 block) (part-kept block (graph-clear g m e)) (rows-at 3 256 block (omega arith))
+      ∙ table-read (g .steps) (tableAt 4 256 block) (part-kept block (graph-clear g m e)) (rows-at 4 256 block (omega arith))
 
   block-back : blockRead s ≡ block
   unfolding blockRead
   block-back =
-      (λ i. counts-back i .steps ∷ counts-back i .people ∷ counts-back i .roles ∷ (table-back i ++ (allows-back i ++ holds-back i)))
+      (λ i. counts-back i .steps ∷ counts-back i .people ∷ counts-back i .roles ∷ counts-back i .actions
+      ∷ (table-back i ++ (allows-back i ++ (holds-back i ++ labels-back i))))
       ∙ block-whole block whole
 
   -- ---- and nothing is against it
 
-  size-of : (i : ℕ) → i < 5 → sizeAt s i ≡ length (bodyAt s i)
-  size-of i h = sym (length-part (offsetAt s i) (sizeAt s i) s (contents-inside s (k .fits) i h))
+  size-of : (i : ℕ) → i < 6 → sizeAt s i ≡ length (bodyAt s i)
+  size-of i h = sym (length-part (offsetAt s i) (sizeAt s i) s (contents-inside 6 s (k .fits) i h))
 
   layout-fits : layoutFits s ≡ true
   layout-fits =
       let arrows : List Arrow = arrowsOf (row (arrowTable g)) in
+      let one : sizeAt s 0 ≡ 4 =
+      size-of 0 (omega arith) ∙ ap length (k .one) ∙ length-counts (g .steps) (g .people) (g .roles) (g .actions) in
       let five : sizeAt s 4 ≡ 3 * length (arrowsOf (row (arrowTable g))) = size-of 4 (omega arith) ∙ ap length (k .five)
       ∙ length-spelt arrows in
+      let fits : contentsFit (formOf s .bodies) s ≡ true = subst (λ (f : Form). contentsFit (f .bodies) s ≡ true) (sym form) (k .fits) in
       layout-exactly s .1
       (record {
-        long = k .long;
-        short = k .short;
-        fits = k .fits;
-        inside = contents-inside s (k .fits);
-        one = size-of 0 (omega arith) ∙ ap length (k .one) ∙ length-counts (g .steps) (g .people) (g .roles);
+        long = subst (λ (f : Form). f .least ≤ length s) (sym form) (k .long);
+        short = subst (λ (f : Form). length s ≤ f .most) (sym form) (k .short);
+        fits = fits;
+        inside = contents-inside (formOf s .bodies) s fits;
+        one = one ∙ ap (λ (f : Form). f .counts) (sym form);
         two = size-of 1 (omega arith) ∙ ap length (k .two) ∙ length-marking m;
         five = omega arith;
       })
 
   counts-right : countsRight s ≡ true
   counts-right =
-      ap (λ (c : Counts). countsFit (c .steps) (c .people) (c .roles)) counts-back
-      ∙ not-false (countsFit (g .steps) (g .people) (g .roles)) (clear-head _ _ e)
+      ap (λ (c : Counts). countsFit (c .steps) (c .people) (c .roles) (c .actions)) counts-back
+      ∙ not-false (countsFit (g .steps) (g .people) (g .roles) (g .actions)) (clear-head _ _ e)
 
   bodies-match : bodiesMatch s ≡ true
   bodies-match =
-      let a : sizeAt s 2 ≡ 2 * countsOf s .steps =
-      size-of 2 (omega arith) ∙ ap length (k .three) ∙ length-roles (g .steps) (g .allows)
-      ∙ ap (λ (c : Counts). 2 * c .steps) (sym counts-back) in
+      let a : sizeAt s 2 ≡ 2 * countsOf s .actions =
+      size-of 2 (omega arith) ∙ ap length (k .three) ∙ length-rows 2 (g .actions) (g .allows)
+      ∙ ap (λ (c : Counts). 2 * c .actions) (sym counts-back) in
       let b : sizeAt s 3 ≡ 2 * countsOf s .people =
-      size-of 3 (omega arith) ∙ ap length (k .four) ∙ length-roles (g .people) (g .holds)
+      size-of 3 (omega arith) ∙ ap length (k .four) ∙ length-rows 2 (g .people) (g .holds)
       ∙ ap (λ (c : Counts). 2 * c .people) (sym counts-back) in
-      and-intro (eq-eqb (sizeAt s 2) (2 * countsOf s .steps) a) (eq-eqb (sizeAt s 3) (2 * countsOf s .people) b)
+      let d : sizeAt s 5 ≡ 1 * countsOf s .steps =
+      size-of 5 (omega arith) ∙ ap length (k .six) ∙ length-rows 1 (g .steps) (g .labels)
+      ∙ ap (λ (c : Counts). 1 * c .steps) (sym counts-back) in
+      and-intro (and-intro (eq-eqb (sizeAt s 2) (2 * countsOf s .actions) a) (eq-eqb (sizeAt s 3) (2 * countsOf s .people) b))
+      (match-six s is-six ∙ eq-eqb (sizeAt s 5) (countsOf s .steps) (omega arith))
 
   sets-inside : setsInside s ≡ true
   sets-inside =
-      let few : row block 2 ≤ 16 = fitting .counted .roles-most in
-      let a : row block 0 ≤ length (tableAt 259 64 block) =
-      (let n : length (tableAt 259 64 block) ≡ 64 = allows-rows in let l : row block 0 ≤ 64 = fitting .counted .steps-most in
-      omega arith) in
-      let b : row block 1 ≤ length (tableAt 323 16 block) =
-      (let n : length (tableAt 323 16 block) ≡ 16 = holds-rows in let l : row block 1 ≤ 16 = fitting .counted .people-most in
-      omega arith) in
+      let few = fitting .counted .roles-most in
+      let c = fitting .counted in
       and-intro
+      (and-intro
       (and-intro
       (ap₂ (λ (c : Counts) (w : Marking). markingFits (c .steps) w) counts-back first-back ∙ marking-clear g m e)
       (ap₂ (λ (c : Counts) (body : List ℕ). roleSetsFit (c .roles) body) counts-back (k .three)
-      ∙ roles-fit (g .steps) (g .roles) (g .allows) a few (fitting .allows-kept)))
+      ∙ roles-fit (g .actions) (g .roles) (g .allows) few (fitting .allows-kept)))
       (ap₂ (λ (c : Counts) (body : List ℕ). roleSetsFit (c .roles) body) counts-back (k .four)
-      ∙ roles-fit (g .people) (g .roles) (g .holds) b few (fitting .holds-kept))
+      ∙ roles-fit (g .people) (g .roles) (g .holds) few (fitting .holds-kept)))
+      (ap₂ (λ (c : Counts) (body : List ℕ). actionsFit (c .actions) body) counts-back labels-part
+      ∙ labels-fit (g .steps) (g .actions) (g .labels) (c .actions-some) (c .actions-most) (fitting .labels-kept))
 
   arrows-right : arrowsRight s ≡ true
   arrows-right =
       ap₂ (λ (c : Counts) (a : List Arrow). linkInOrder (c .steps) a) counts-back arrows-back
-      ∙ table-fit (g .steps) (tableAt 3 256 block) (part-kept block (graph-clear g m e))
+      ∙ table-fit (g .steps) (tableAt 4 256 block) (part-kept block (graph-clear g m e))
 
   kinds-right : kindsRight s ≡ true
   kinds-right =
@@ -199,7 +221,7 @@ module _ (block : List ℕ) (m : Marking) (whole : length block ≡ 339) (e : fi
   read-clear = simp (layout-fits, counts-right, bodies-match, sets-inside, arrows-right, kinds-right)
 
 -- what was written is read back
-pub read-written : (block : List ℕ) (m : Marking) → length block ≡ 339 → first (contentLines (graphOf block) m) ≡ Verdict.Clear
+pub read-written : (block : List ℕ) (m : Marking) → length block ≡ 404 → first (contentLines (graphOf block) m) ≡ Verdict.Clear
     → Says (sheetBytes (graphOf block) m) block m
 read-written block m whole e =
     let s : List ℕ = sheetBytes (graphOf block) m in

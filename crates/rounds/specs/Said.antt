@@ -151,11 +151,11 @@ module _ (n : ℕ) (l : List Arrow) (h : n ≤ 64) (fit : linkInOrder n l ≡ tr
 module _ (s : List ℕ) (h : countsOf s .steps ≤ 64) (fit : arrowsRight s ≡ true) where
   -- the rows of a kind, of the graph that is read
   in-graph : (kind r c : ℕ) → kind < 4
-      → has (row (tableAt (3 + kind * 64) 64 (blockRead s)) r) c ≡ inKind (countsOf s .steps) (arrowsOn s) h fit kind r c
+      → has (row (tableAt (4 + kind * 64) 64 (blockRead s)) r) c ≡ inKind (countsOf s .steps) (arrowsOn s) h fit kind r c
   in-graph kind r c k = ap (λ (t : List ℕ). has (row t r) c) (read-kind s kind k)
 
   other-related : (kind a b : ℕ) → suc kind < 4
-      → (has (row (tableAt (3 + suc kind * 64) 64 (blockRead s)) a) b ≡ true) ↔ Stands (arrowsOn s) (toward (suc kind) a b)
+      → (has (row (tableAt (4 + suc kind * 64) 64 (blockRead s)) a) b ≡ true) ↔ Stands (arrowsOn s) (toward (suc kind) a b)
   other-related kind a b k =
       let there = other-exactly (countsOf s .steps) (arrowsOn s) h fit kind a b k in
       (λ e. there .0 (sym (in-graph (suc kind) a b k) ∙ e), λ f. in-graph (suc kind) a b k ∙ there .1 f)

@@ -5,21 +5,24 @@ use mathlib.Core.Bool.{Bool, not, _&&_}
 use Rattle.moves.specs.declared.Refusal.the-variants.{Counts, Beyond, Both}
 use Rattle.moves.specs.declared.Verdict.{Verdict}
 use Rattle.moves.specs.First.{Line, first}
-use Rattle.tables.specs.Tables.{row, countsFit, rolesFit, arrowRowsFit, kindsApart, tableAt}
+use Rattle.tables.specs.Tables.{row, countsFit, rolesFit, labelsFit, arrowRowsFit, kindsApart, tableAt}
 
--- a job: three counts, and tables of sets. Row b of `conditions` is what b waits for; row a of the next three is what a points at
+-- a job: four counts, tables of sets, and the action of each step. Row b of `conditions` is what b waits for; row a of the next three is
+-- what a points at
 pub record Graph : Type 0 where
   pub steps : ℕ
   pub people : ℕ
   pub roles : ℕ
+  pub actions : ℕ
   pub conditions : List ℕ
   pub responses : List ℕ
   pub includes : List ℕ
   pub excludes : List ℕ
   pub allows : List ℕ
   pub holds : List ℕ
+  pub labels : List ℕ
 
--- ---- a job as it is lent: one block of 339 words. No other place knows where a table stands
+-- ---- a job as it is lent: one block of 404 words. No other place knows where a table stands
 
 abbrev pub graphOf : List ℕ → Graph
 graphOf block =
@@ -27,12 +30,14 @@ graphOf block =
       steps = row block 0;
       people = row block 1;
       roles = row block 2;
-      conditions = tableAt 3 64 block;
-      responses = tableAt 67 64 block;
-      includes = tableAt 131 64 block;
-      excludes = tableAt 195 64 block;
-      allows = tableAt 259 64 block;
-      holds = tableAt 323 16 block;
+      actions = row block 3;
+      conditions = tableAt 4 64 block;
+      responses = tableAt 68 64 block;
+      includes = tableAt 132 64 block;
+      excludes = tableAt 196 64 block;
+      allows = tableAt 260 64 block;
+      holds = tableAt 324 16 block;
+      labels = tableAt 340 64 block;
     }
 
 -- ---- the relations of Definition 3
@@ -53,11 +58,19 @@ includesOf g s = row (g .includes) s
 abbrev pub excludesOf : Graph → ℕ → ℕ
 excludesOf g s = row (g .excludes) s
 
--- ---- the role assignment of Definition 5. Each step is its own action
+-- (vii) l(s): the action of s
+abbrev pub actionOf : Graph → ℕ → ℕ
+actionOf g s = row (g .labels) s
 
--- {r | s as r}
+-- ---- the role assignment of Definition 5
+
+-- {r | a as r}
+abbrev pub rolesOfAction : Graph → ℕ → ℕ
+rolesOfAction g a = row (g .allows) a
+
+-- {r | l(s) as r}: a step has the roles of its action
 abbrev pub rolesOf : Graph → ℕ → ℕ
-rolesOf g s = row (g .allows) s
+rolesOf g s = rolesOfAction g (actionOf g s)
 
 -- {r | p as r}
 abbrev pub rolesHeld : Graph → ℕ → ℕ
@@ -65,16 +78,16 @@ rolesHeld g p = row (g .holds) p
 
 -- ---- a graph handed over as a value
 
--- 4 is given unless each set names only what there is, and nothing is stored beyond the counts
+-- 4 is given unless each set names only what there is, each step has an action that there is, and nothing is stored beyond the counts
 unfoldable pub setsFit : Graph → Bool
 setsFit g =
-    rolesFit (g .steps) (g .people) (g .roles) (g .allows) (g .holds)
+    (rolesFit (g .actions) (g .people) (g .roles) (g .allows) (g .holds) && labelsFit (g .steps) (g .actions) (g .labels))
     && arrowRowsFit (g .steps) (g .conditions) (g .responses) (g .includes) (g .excludes)
 
 -- the table for a graph
 abbrev pub graphLines : Graph → List Line
 graphLines g =
-    (Counts, not (countsFit (g .steps) (g .people) (g .roles)))
+    (Counts, not (countsFit (g .steps) (g .people) (g .roles) (g .actions)))
     ∷ (Beyond, not (setsFit g))
     ∷ (Both, not (kindsApart (g .steps) (g .includes) (g .excludes)))
     ∷ []

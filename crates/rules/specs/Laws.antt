@@ -21,9 +21,9 @@ use Rattle.moves.specs.Given.{first-clear, first-refused, clear-head}
 use Rattle.tables.specs.Laws.{Counted, counts-bound}
 
 -- a graph with nothing against it has counts that fit
-pub clear-counts : (g : Graph) → graphVerdict g ≡ Verdict.Clear → Counted (g .steps) (g .people) (g .roles)
-clear-counts g e = counts-bound (g .steps) (g .people) (g .roles)
-    (not-false (countsFit (g .steps) (g .people) (g .roles)) (clear-head _ _ e))
+pub clear-counts : (g : Graph) → graphVerdict g ≡ Verdict.Clear → Counted (g .steps) (g .people) (g .roles) (g .actions)
+clear-counts g e = counts-bound (g .steps) (g .people) (g .roles) (g .actions)
+    (not-false (countsFit (g .steps) (g .people) (g .roles) (g .actions)) (clear-head _ _ e))
 
 -- ---- the answers, by what is found of the graph and the marking
 

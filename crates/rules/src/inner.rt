@@ -4,7 +4,7 @@ ghost use Prim.Native.Nat.{_+_, _<_, _≤_};
 ghost use Rattle.moves.specs.declared.Verdict.{Verdict};
 ghost use Rattle.moves.specs.Move.{after};
 ghost use Rattle.tables.specs.Tables.{row, tableAt};
-ghost use Rattle.rules.specs.Graph.{graphOf, graphVerdict};
+ghost use Rattle.rules.specs.Graph.{graphOf, graphVerdict, actionOf};
 ghost use Rattle.rules.specs.Answers.{theAsked, theMove, askedOn, entryAsked, refusalIn, endingOn, rowOf};
 use crate::ALLOWS;
 use crate::CONDITIONS;
@@ -13,6 +13,7 @@ use crate::Ending;
 use crate::HOLDS;
 use crate::INCLUDES;
 use crate::Job;
+use crate::LABELS;
 use crate::RESPONSES;
 use moves::Asked;
 use moves::Entry;
@@ -27,21 +28,30 @@ use moves::inner::moved;
 
 // Row s of the table of `count` rows from word `at` on.
 fn word(g: &Job, at: usize, count: usize, s: u8) -> u64
-    requires { ⌜ (at + count ≤ 339) × (s < count) ⌝ }
+    requires { ⌜ (at + count ≤ 404) × (s < count) ⌝ }
     ensures { λ r. ⌜ r ≡ row (tableAt at count (now (g .entry))) s ⌝ }
 {
     let i = s as usize;
     g[at + i]
 }
 
+// The action of step s.
+pub fn action(g: &Job, s: u8) -> u8
+    requires { ⌜ (graphVerdict (graphOf (now g)) ≡ Verdict.Clear) × (s < 64) ⌝ }
+    ensures { λ r. ⌜ (r ≡ actionOf (graphOf (now (g .entry))) s) × (r < 64) ⌝ }
+{
+    word(g, LABELS, 64, s) as u8
+}
+
 // What an entry of person p and step s meets of the graph.
 pub fn row_at(g: &Job, p: u8, s: u8) -> Row
-    requires { ⌜ (p < 16) × (s < 64) ⌝ }
+    requires { ⌜ (graphVerdict (graphOf (now g)) ≡ Verdict.Clear) × (p < 16) × (s < 64) ⌝ }
     ensures { λ r. ⌜ r ≡ rowOf (graphOf (now (g .entry))) p s ⌝ }
 {
+    let a = action(g, s);
     Row {
         held: word(g, HOLDS, 16, p),
-        allows: word(g, ALLOWS, 64, s),
+        allows: word(g, ALLOWS, 64, a),
         conditions: word(g, CONDITIONS, 64, s),
         responses: word(g, RESPONSES, 64, s),
         includes: word(g, INCLUDES, 64, s),
@@ -93,7 +103,7 @@ pub fn against(g: &Job, m: Marking, e: Entry) -> Refusal
 
 // The marking after an entry that is allowed.
 pub fn taken(g: &Job, m: Marking, e: Entry) -> Marking
-    requires { ⌜ (e .person < 16) × (e .step .0 < 64) ⌝ }
+    requires { ⌜ (graphVerdict (graphOf (now g)) ≡ Verdict.Clear) × (e .person < 16) × (e .step .0 < 64) ⌝ }
     ensures { λ r. ⌜ r ≡ after (rowOf (graphOf (now (g .entry))) (e .person) (e .step .0)) m (e .step .0) ⌝ }
 {
     let p = e.person;

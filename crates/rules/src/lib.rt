@@ -13,24 +13,29 @@ use moves::Refusal;
 use moves::Verdict;
 use tables::arrows_checked;
 use tables::counts_fit;
+use tables::labels_fit;
 use tables::roles_fit;
 
 pub mod inner;
 
-// A job: the counts of steps, people and roles, then the tables, each from its first word on. A set is a word.
-pub const CONDITIONS: usize = 3;
+// A job: the counts of steps, people, roles and actions, then the tables, each from its first word on. A set is a word.
+pub const CONDITIONS: usize = 4;
 
-pub const RESPONSES: usize = 67;
+pub const RESPONSES: usize = 68;
 
-pub const INCLUDES: usize = 131;
+pub const INCLUDES: usize = 132;
 
-pub const EXCLUDES: usize = 195;
+pub const EXCLUDES: usize = 196;
 
-pub const ALLOWS: usize = 259;
+// The roles of the actions.
+pub const ALLOWS: usize = 260;
 
-pub const HOLDS: usize = 323;
+pub const HOLDS: usize = 324;
 
-pub const WORDS: usize = 339;
+// The actions of the steps.
+pub const LABELS: usize = 340;
+
+pub const WORDS: usize = 404;
 
 pub type Job = [u64; WORDS];
 
@@ -47,7 +52,8 @@ pub fn check(g: &Job) -> Verdict
     let steps = g[0];
     let people = g[1];
     let roles = g[2];
-    if !counts_fit(steps, people, roles) {
+    let actions = g[3];
+    if !counts_fit(steps, people, roles, actions) {
         return Verdict::Refused(Refusal::Counts);
     }
     let w = &g[..];
@@ -58,7 +64,8 @@ pub fn check(g: &Job) -> Verdict
         &w[INCLUDES..EXCLUDES],
         &w[EXCLUDES..ALLOWS],
     );
-    if !(roles_fit(steps, people, roles, &w[ALLOWS..HOLDS], &w[HOLDS..WORDS]) & arrows.fit) {
+    let named = roles_fit(actions, people, roles, &w[ALLOWS..HOLDS], &w[HOLDS..LABELS]);
+    if !((named & labels_fit(steps, actions, &w[LABELS..WORDS])) & arrows.fit) {
         return Verdict::Refused(Refusal::Beyond);
     }
     if !arrows.apart {

@@ -2,7 +2,7 @@
 use Prim.Native.Nat.{ℕ, zero, suc}
 use mathlib.Core.List.{List, [], _∷_}
 use mathlib.Core.Bool.{Bool, false, _&&_, cond}
-use lib.Dec.{eqb}
+use lib.Dec.{eqb, ltb}
 use Rattle.sets.specs.Sets.{single, union}
 use Rattle.moves.specs.declared.Marking.{Marking}
 use Rattle.moves.specs.declared.Entry.{Entry}
@@ -50,19 +50,22 @@ unfoldable pub table : ℕ → ℕ → (ℕ → ℕ) → List ℕ
 table zero s f = []
 table (suc k) s f = f s ∷ table k (suc s) f
 
--- kinds: 0 condition, 1 response, 2 include, 3 exclude. A condition stands with the step that waits, each other arrow with its first step
+-- kinds: 0 condition, 1 response, 2 include, 3 exclude. A condition stands with the step that waits, each other arrow with its first step.
+-- Each step is its own action
 abbrev pub graph : ℕ → ℕ → ℕ → List (List ℕ) → List (List ℕ) → List Triple → Graph
 graph steps people roles stepRoles held arrows =
     record {
       steps = steps;
       people = people;
       roles = roles;
+      actions = steps;
       conditions = table 64 0 (sources 0 arrows);
       responses = table 64 0 (targets 1 arrows);
       includes = table 64 0 (targets 2 arrows);
       excludes = table 64 0 (targets 3 arrows);
       allows = rows 64 stepRoles;
       holds = rows 16 held;
+      labels = table 64 0 (λ s. cond (ltb s steps) s 0);
     }
 
 -- an answer to who asks: the number, and the set that goes with it

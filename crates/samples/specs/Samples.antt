@@ -6,7 +6,7 @@ use mathlib.Core.Bool.{true, false}
 use Rattle.sets.specs.Sets.{has, full, scan, lowest, every}
 use Rattle.moves.specs.First.{first, numberOf, waitingOf}
 use Rattle.moves.specs.Move.{entryOf, askedOf, moveOf, isFinished, numberOfAsked, waitingOfAsked, numberOfMove, waitingOfMove, markingOfMove}
-use Rattle.tables.specs.Tables.{keeps}
+use Rattle.tables.specs.Tables.{keeps, labelsFit}
 use Rattle.rules.specs.Graph.{setsFit}
 use Rattle.rules.specs.Answers.{theAsked, theMove, entryAsked, entryMove}
 use Rattle.journal.specs.Journal.{entries}
@@ -84,13 +84,13 @@ samples =
 
 -- the laps of S12 are decided by computing, and the decision is right for the run without end
 starved : theLap job firstMarking [] (journal (reboot ∷ [])) ≡ Lapped.Starved (record { 0 = 1 })
-unfolding journal set rows targets sources table job first numberOf keeps setsFit has full scan lowest every goThrough legOn upon secondLap
-    firstLap decision lapOf theLap entryMove entryAsked askedOf moveOf entries
+unfolding journal set rows targets sources table job first numberOf keeps labelsFit setsFit has full scan lowest every goThrough legOn upon
+    secondLap firstLap decision lapOf theLap entryMove entryAsked askedOf moveOf entries
 starved = refl
 
 accepted : theLap job firstMarking [] (journal (reboot ∷ check ∷ [])) ≡ Lapped.Accepted
-unfolding journal set rows targets sources table job first numberOf keeps setsFit has full scan lowest every goThrough legOn upon secondLap
-    firstLap decision lapOf theLap entryMove entryAsked askedOf moveOf entries
+unfolding journal set rows targets sources table job first numberOf keeps labelsFit setsFit has full scan lowest every goThrough legOn upon
+    secondLap firstLap decision lapOf theLap entryMove entryAsked askedOf moveOf entries
 accepted = refl
 
 twelve : LapAnswer job firstMarking [] (journal (reboot ∷ [])) (Lapped.Starved (record { 0 = 1 }))
@@ -102,8 +102,8 @@ twelve = (
 )
 
 pub samples-hold : Hold samples
-unfolding samples set rows targets sources table job tracking first numberOf waitingOf keeps setsFit theMove theAsked askedOf moveOf
-    numberOfAsked waitingOfAsked numberOfMove waitingOfMove markingOfMove theStart theStep trackAfter trackedOf has full scan lowest every
-    journal theFold recordedOf foldOf entryRecord tidy join entries
+unfolding samples set rows targets sources table job tracking first numberOf waitingOf keeps labelsFit setsFit theMove theAsked askedOf
+    moveOf numberOfAsked waitingOfAsked numberOfMove waitingOfMove markingOfMove theStart theStep trackAfter trackedOf has full scan lowest
+    every journal theFold recordedOf foldOf entryRecord tidy join entries
 samples-hold = (refl, refl) also (refl, refl, refl) also refl also
     (refl, refl) also refl also refl also refl also refl also refl also refl also refl also twelve also (refl, refl) also tt

@@ -12,12 +12,14 @@ use rules::EXCLUDES;
 use rules::HOLDS;
 use rules::INCLUDES;
 use rules::Job;
+use rules::LABELS;
 use rules::RESPONSES;
 
 pub fn say_counts(page: &mut Page, g: &Job) {
     say_count(page, b"steps", g[0]);
     say_count(page, b"people", g[1]);
     say_count(page, b"roles", g[2]);
+    say_count(page, b"actions", g[3]);
 }
 
 // How many steps a row names: no more than there are bits in a word.
@@ -38,12 +40,16 @@ pub fn say_arrow_count(page: &mut Page, g: &Job) {
     say_count(page, b"arrows", total);
 }
 
-fn say_person(page: &mut Page, p: u64, roles: u64) {
-    say(page, b"person ");
-    say_number(page, p);
+fn say_roles(page: &mut Page, whose: &[u8], i: u64, roles: u64) {
+    say(page, whose);
+    say_number(page, i);
     say(page, b": roles ");
     say_set(page, roles);
     say(page, b"\n");
+}
+
+fn say_person(page: &mut Page, p: u64, roles: u64) {
+    say_roles(page, b"person ", p, roles);
 }
 
 pub fn say_people(page: &mut Page, g: &Job) {
@@ -56,14 +62,41 @@ pub fn say_people(page: &mut Page, g: &Job) {
     }
 }
 
-fn say_step(page: &mut Page, s: u8, roles: u64, m: Marking) {
+fn say_action(page: &mut Page, a: u64, roles: u64) {
+    say_roles(page, b"action ", a, roles);
+}
+
+pub fn say_actions(page: &mut Page, g: &Job) {
+    let mut a = 0;
+    while a < 64 {
+        if (a as u64) < g[3] {
+            say_action(page, a as u64, g[ALLOWS + a]);
+        }
+        a += 1;
+    }
+}
+
+fn roles_of(g: &Job, action: u64) -> u64 {
+    if 63 < action {
+        return 0;
+    }
+    let a = action as usize;
+    g[ALLOWS + a]
+}
+
+// A step has the roles of its action.
+fn say_step(page: &mut Page, g: &Job, s: u8, m: Marking) {
     if 63 < s {
         return;
     }
+    let i = s as usize;
+    let action = g[LABELS + i];
     say(page, b"step ");
     say_number(page, s as u64);
-    say(page, b": roles ");
-    say_set(page, roles);
+    say(page, b": action ");
+    say_number(page, action);
+    say(page, b", roles ");
+    say_set(page, roles_of(g, action));
     if sets::has(m.included, s) {
         say(page, b", included");
     } else {
@@ -79,10 +112,10 @@ fn say_step(page: &mut Page, s: u8, roles: u64, m: Marking) {
 }
 
 pub fn say_steps(page: &mut Page, g: &Job, m: Marking) {
-    let mut s = 0;
+    let mut s = 0u8;
     while s < 64 {
         if (s as u64) < g[0] {
-            say_step(page, s as u8, g[ALLOWS + s], m);
+            say_step(page, g, s, m);
         }
         s += 1;
     }

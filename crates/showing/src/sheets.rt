@@ -1,4 +1,5 @@
 // Commands on a sheet alone.
+use crate::graphs::say_actions;
 use crate::graphs::say_arrow_count;
 use crate::graphs::say_arrows;
 use crate::graphs::say_counts;
@@ -27,6 +28,7 @@ pub fn check(page: &mut Page, g: &Job) -> Answer {
 pub fn show(page: &mut Page, g: &Job, m: Marking) -> Answer {
     say_counts(page, g);
     say_people(page, g);
+    say_actions(page, g);
     say_steps(page, g, m);
     say_arrows(page, g);
     say_arrow_count(page, g);

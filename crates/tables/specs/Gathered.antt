@@ -1,5 +1,5 @@
 -- What the code gathers of a graph's tables, on its way to an answer. No promise of a public call speaks of it.
-use Prim.Native.Nat.{ℕ, _≤_}
+use Prim.Native.Nat.{ℕ, _+_, _%_, _^_, _≤_}
 use mathlib.Core.Path.{_≡_}
 use mathlib.Core.List.{List}
 use mathlib.Core.Bool.{cond}
@@ -11,6 +11,10 @@ use Rattle.tables.specs.Tables.{row}
 -- row i, where i is not below the count
 abbrev pub beyond : ℕ → (ℕ → ℕ) → ℕ → ℕ
 beyond count rows i = cond (ltb i count) 0 (rows i)
+
+-- row i, and row i moved up, in a word: both are below 64 exactly if row i is so far below 64
+abbrev pub raised : ℕ → (ℕ → ℕ) → ℕ → ℕ
+raised up rows i = union (rows i) ((rows i + up) % 2 ^ 64)
 
 -- what row i of one of four tables names
 abbrev pub rowsTogether : List ℕ → List ℕ → List ℕ → List ℕ → ℕ → ℕ

@@ -1,9 +1,9 @@
 -- What is gathered of a graph's tables tells whether they keep to the counts. Assumes nothing.
-use Prim.Native.Nat.{ℕ, zero, suc, _+_, _-_, _^_, _≤_, _<_}
+use Prim.Native.Nat.{ℕ, zero, suc, _+_, _-_, _%_, _^_, _≤_, _<_}
 use mathlib.Core.Path.{_≡_, refl, sym, ap, ap₂, _∙_, subst}
 use mathlib.Core.List.{List, [], _∷_, _++_}
 use mathlib.Core.Bool.{Bool, true, false, _&&_, cond, true≢false}
-use native.Mathlib.Nat.{le-refl, lt-of-lt-of-le, lt-of-le-of-lt, zero-add, suc-add}
+use native.Mathlib.Nat.{le-refl, lt-of-lt-of-le, lt-of-le-of-lt, zero-add, suc-add, mod-eq-of-lt}
 use native.Mathlib.Omega.{arith}
 use native.Mathlib.Decide.{decLt}
 use lib.ListN.{length, take, drop, length-drop, List·getD-eq-default}
@@ -12,12 +12,12 @@ use lib.Seq.{drop-append-le, drop-append-add, drop-drop}
 use lib.Dec.{ltb, leb}
 use borrow.Author.Tests.{ltb-true, leb-true, lt-ltb, le-ltb, eq-eqb, eqb-true}
 use Rattle.sets.specs.Sets.{union, empty, within, full, gather, every, has}
-use Rattle.sets.specs.Truth.{and-exchange, and-left, and-right, and-intro, same-truth}
+use Rattle.sets.specs.Truth.{and-exchange, and-left, and-right, and-intro, and-true, same-truth}
 use Rattle.sets.specs.Laws.{empty-gather, empty-union, within-gather, within-union, within-full, every-and, every-same, every-at, every-of}
 use Rattle.sets.specs.Laws.{has-zero}
-use Rattle.tables.specs.Tables.{row, tableAt, keeps, rolesFit, arrowRowsFit, kindsApart, countsFit}
+use Rattle.tables.specs.Tables.{row, tableAt, keeps, rolesFit, labelsFit, arrowRowsFit, kindsApart, countsFit}
 use Rattle.moves.specs.Move.{within1to}
-use Rattle.tables.specs.Gathered.{beyond, rowsTogether, rowsShared, Sized}
+use Rattle.tables.specs.Gathered.{beyond, raised, rowsTogether, rowsShared, Sized}
 use lib.Pow.{pow-pos, pow-mono}
 
 -- ---- a part of a list of words
@@ -146,15 +146,53 @@ pub beyond-64 : (t : List ℕ) → length t ≡ 64 → 0 ≡ gather (length t) (
 beyond-64 t e = sym (gather-front (length t) 64 (row t) (omega arith))
 
 -- the two tables of roles
-pub roles-keep : (steps people roles : ℕ) (allows holds : List ℕ) (named a b x y : ℕ) → named ≡ full roles
-    → steps ≤ length allows → people ≤ length holds
+pub roles-keep : (actions people roles : ℕ) (allows holds : List ℕ) (named a b x y : ℕ) → named ≡ full roles
+    → actions ≤ length allows → people ≤ length holds
     → a ≡ gather (length allows) (row allows) → b ≡ gather (length holds) (row holds)
-    → x ≡ gather (length allows) (beyond steps (row allows)) → y ≡ gather (length holds) (beyond people (row holds))
-    → (leb (union a b) named && empty (union x y)) ≡ rolesFit steps people roles allows holds
-roles-keep steps people roles allows holds named a b x y n ha hb pa pb px py =
+    → x ≡ gather (length allows) (beyond actions (row allows)) → y ≡ gather (length holds) (beyond people (row holds))
+    → (leb (union a b) named && empty (union x y)) ≡ rolesFit actions people roles allows holds
+roles-keep actions people roles allows holds named a b x y n ha hb pa pb px py =
     ap₂ _&&_ (ap (leb (union a b)) n ∙ within-full roles (union a b) ∙ within-union roles a b) (empty-union x y)
     ∙ and-exchange (within roles a) (within roles b) (empty x) (empty y)
-    ∙ ap₂ _&&_ (table-keeps steps roles allows a x ha pa px) (table-keeps people roles holds b y hb pb py)
+    ∙ ap₂ _&&_ (table-keeps actions roles allows a x ha pa px) (table-keeps people roles holds b y hb pb py)
+
+-- a number is below the count of actions exactly if it is below 64, and so it is moved up by what the count lacks of 64
+raised-below : (actions t : ℕ) → 1 ≤ actions → actions ≤ 64 → (within 6 t && within 6 ((t + (64 - actions)) % 2 ^ 64)) ≡ ltb t actions
+raised-below actions t some most =
+    same-truth (within 6 t && within 6 ((t + (64 - actions)) % 2 ^ 64)) (ltb t actions)
+    (λ e.
+    let low : t < 64 = ltb-true t 64 (and-left (within 6 t) (within 6 ((t + (64 - actions)) % 2 ^ 64)) e) in
+    let high : (t + (64 - actions)) % 2 ^ 64 < 64 = ltb-true _ 64 (and-right (within 6 t) (within 6 ((t + (64 - actions)) % 2 ^ 64)) e) in
+    let same : (t + (64 - actions)) % 2 ^ 64 ≡ t + (64 - actions) = mod-eq-of-lt (let z : t + (64 - actions) < 2 ^ 64 = omega arith in z) in
+    lt-ltb t actions (omega arith))
+    (λ e.
+    let low : t < actions = ltb-true t actions e in
+    let same : (t + (64 - actions)) % 2 ^ 64 ≡ t + (64 - actions) = mod-eq-of-lt (let z : t + (64 - actions) < 2 ^ 64 = omega arith in z) in
+    and-intro (lt-ltb t 64 (omega arith)) (lt-ltb ((t + (64 - actions)) % 2 ^ 64) 64 (omega arith)))
+
+-- the actions of the steps
+pub labels-keep : (steps actions : ℕ) (labels : List ℕ) (a x : ℕ) → 1 ≤ actions → actions ≤ 64
+    → a ≡ gather (length labels) (raised (64 - actions) (row labels)) → x ≡ gather (length labels) (beyond steps (row labels))
+    → (ltb a 64 && empty x) ≡ labelsFit steps actions labels
+unfolding labelsFit
+labels-keep steps actions labels a x some most pa px =
+    ap₂ _&&_ (ap (within 6) pa ∙ within-gather 6 room (raised (64 - actions) (row labels))
+    ∙ every-same room (λ s. within 6 (raised (64 - actions) (row labels) s)) (λ s. ltb (row labels s) actions)
+    (λ s. within-union 6 (row labels s) ((row labels s + (64 - actions)) % 2 ^ 64) ∙ raised-below actions (row labels s) some most))
+    (ap empty px ∙ empty-gather room (beyond steps (row labels)))
+    ∙ sym (every-and room (λ s. ltb (row labels s) actions) (λ s. empty (beyond steps (row labels) s)))
+    ∙ every-same room (λ s. ltb (row labels s) actions && empty (beyond steps (row labels) s))
+    (λ s. ltb (row labels s) (cond (ltb s steps) actions 1)) (λ s. both (ltb s steps) (row labels s))
+  where
+    room : ℕ
+    room = length labels
+
+    both : (b : Bool) (t : ℕ) → (ltb t actions && empty (cond b 0 t)) ≡ ltb t (cond b actions 1)
+    both true t = and-true (ltb t actions)
+    both false t =
+        same-truth (ltb t actions && empty t) (ltb t 1)
+        (λ e. lt-ltb t 1 (let z : t ≡ 0 = eqb-true t 0 (and-right (ltb t actions) (empty t) e) in omega arith))
+        (λ e. let z : t < 1 = ltb-true t 1 e in and-intro (lt-ltb t actions (omega arith)) (eq-eqb t 0 (omega arith)))
 
 -- a table of 64 rows
 keeps-64 : (k : ℕ) (t : List ℕ) → length t ≡ 64 → kept 64 k k (row t) ≡ keeps k k t
@@ -192,29 +230,41 @@ pub shared-apart : (k : ℕ) (t u : List ℕ) (both : ℕ) → both ≡ gather k
 shared-apart k t u both e = ap empty e ∙ empty-gather k (rowsShared t u)
 
 -- counts that fit are within their bounds
-pub record Counted (steps people roles : ℕ) : Type 0 where
+pub record Counted (steps people roles actions : ℕ) : Type 0 where
   pub steps-some : 1 ≤ steps
   pub steps-most : steps ≤ 64
   pub people-some : 1 ≤ people
   pub people-most : people ≤ 16
   pub roles-some : 1 ≤ roles
   pub roles-most : roles ≤ 16
+  pub actions-some : 1 ≤ actions
+  pub actions-most : actions ≤ 64
 
-pub counts-bound : (steps people roles : ℕ) → countsFit steps people roles ≡ true → Counted steps people roles
-counts-bound steps people roles e =
+-- a count that fits is within its bounds
+count-bound : (k most : ℕ) → within1to k most ≡ true → (1 ≤ k) × (k ≤ most)
+count-bound k most e = (leb-true 1 k (and-left (leb 1 k) (leb k most) e), leb-true k most (and-right (leb 1 k) (leb k most) e))
+
+pub counts-bound : (steps people roles actions : ℕ) → countsFit steps people roles actions ≡ true → Counted steps people roles actions
+counts-bound steps people roles actions e =
     let s = within1to steps 64 in
     let p = within1to people 16 in
     let r = within1to roles 16 in
-    let es : s ≡ true = and-left s p (and-left (s && p) r e) in
-    let ep : p ≡ true = and-right s p (and-left (s && p) r e) in
-    let er : r ≡ true = and-right (s && p) r e in
+    let a = within1to actions 64 in
+    let e3 : (s && p && r) ≡ true = and-left (s && p && r) a e in
+    let e2 : (s && p) ≡ true = and-left (s && p) r e3 in
+    let bs = count-bound steps 64 (and-left s p e2) in
+    let bp = count-bound people 16 (and-right s p e2) in
+    let br = count-bound roles 16 (and-right (s && p) r e3) in
+    let ba = count-bound actions 64 (and-right (s && p && r) a e) in
     record {
-      steps-some = leb-true 1 steps (and-left (leb 1 steps) (leb steps 64) es);
-      steps-most = leb-true steps 64 (and-right (leb 1 steps) (leb steps 64) es);
-      people-some = leb-true 1 people (and-left (leb 1 people) (leb people 16) ep);
-      people-most = leb-true people 16 (and-right (leb 1 people) (leb people 16) ep);
-      roles-some = leb-true 1 roles (and-left (leb 1 roles) (leb roles 16) er);
-      roles-most = leb-true roles 16 (and-right (leb 1 roles) (leb roles 16) er);
+      steps-some = bs .0;
+      steps-most = bs .1;
+      people-some = bp .0;
+      people-most = bp .1;
+      roles-some = br .0;
+      roles-most = br .1;
+      actions-some = ba .0;
+      actions-most = ba .1;
     }
 
 -- a table that keeps to its counts has no row beyond the limit
@@ -257,3 +307,53 @@ named-below count limit table e i s h = go (decLt i count)
     go : Dec (i < count) → i < count
     go (yes l) = l
     go (no l) = absurd (true≢false (sym h ∙ ap (λ (x : ℕ). has x s) (keeps-gone count limit table e i (omega arith)) ∙ has-zero s))
+
+-- ---- the actions of the steps
+
+-- every word of a table of actions that fits is a number of the 64
+pub label-few : (steps actions : ℕ) (labels : List ℕ) → 1 ≤ actions → actions ≤ 64 → labelsFit steps actions labels ≡ true
+    → (s : ℕ) → row labels s < 64
+unfolding labelsFit
+label-few steps actions labels some most e s = go (decLt s (length labels))
+  where
+    low : (b : Bool) → cond b actions 1 ≤ 64
+    low true = most
+    low false = omega arith
+
+    go : Dec (s < length labels) → row labels s < 64
+    go (yes h) =
+        lt-of-lt-of-le (ltb-true (row labels s) (cond (ltb s steps) actions 1)
+        (every-at (length labels) (λ k. ltb (row labels k) (cond (ltb k steps) actions 1)) e s h)) (low (ltb s steps))
+    go (no h) =
+        let none : row labels s ≡ 0 = List·getD-eq-default labels 0 {n = s} (let w : length labels ≤ s = omega arith in w) in
+        omega arith
+
+-- the action of a step is one that there is
+pub label-below : (steps actions : ℕ) (labels : List ℕ) → 1 ≤ actions → labelsFit steps actions labels ≡ true
+    → (s : ℕ) → s < steps → row labels s < actions
+unfolding labelsFit
+label-below steps actions labels some e s l = go (decLt s (length labels))
+  where
+    go : Dec (s < length labels) → row labels s < actions
+    go (yes h) =
+        ltb-true (row labels s) actions
+        (subst (λ (b : Bool). ltb (row labels s) (cond b actions 1) ≡ true) (lt-ltb s steps l)
+        (every-at (length labels) (λ k. ltb (row labels k) (cond (ltb k steps) actions 1)) e s h))
+    go (no h) =
+        let none : row labels s ≡ 0 = List·getD-eq-default labels 0 {n = s} (let w : length labels ≤ s = omega arith in w) in
+        omega arith
+
+-- and none stands for a step that there is not
+pub label-gone : (steps actions : ℕ) (labels : List ℕ) → labelsFit steps actions labels ≡ true
+    → (s : ℕ) → steps ≤ s → row labels s ≡ 0
+unfolding labelsFit
+label-gone steps actions labels e s l = go (decLt s (length labels))
+  where
+    go : Dec (s < length labels) → row labels s ≡ 0
+    go (yes h) =
+        let small : row labels s < 1 =
+        ltb-true (row labels s) 1
+        (subst (λ (b : Bool). ltb (row labels s) (cond b actions 1) ≡ true) (le-ltb s steps l)
+        (every-at (length labels) (λ k. ltb (row labels k) (cond (ltb k steps) actions 1)) e s h)) in
+        omega arith
+    go (no h) = List·getD-eq-default labels 0 {n = s} (let w : length labels ≤ s = omega arith in w)

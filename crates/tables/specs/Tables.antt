@@ -15,17 +15,21 @@ row table s = getD table s 0
 abbrev pub tableAt : ℕ → ℕ → List ℕ → List ℕ
 tableAt at count words = take count (drop at words)
 
--- 2 is given unless there are 1 to 64 steps, 1 to 16 people and 1 to 16 roles
-abbrev pub countsFit : ℕ → ℕ → ℕ → Bool
-countsFit steps people roles = within1to steps 64 && within1to people 16 && within1to roles 16
+-- 2 is given unless there are 1 to 64 steps, 1 to 16 people, 1 to 16 roles and 1 to 64 actions
+abbrev pub countsFit : ℕ → ℕ → ℕ → ℕ → Bool
+countsFit steps people roles actions = within1to steps 64 && within1to people 16 && within1to roles 16 && within1to actions 64
 
 -- a table that keeps a row for each number below `count`: such a row names nothing at or beyond `limit`, and any other row nothing at all
 unfoldable pub keeps : ℕ → ℕ → List ℕ → Bool
 keeps count limit table = every (length table) (λ i. within (cond (ltb i count) limit 0) (row table i))
 
--- the role sets of the steps and of the people
+-- the role sets of the actions and of the people
 abbrev pub rolesFit : ℕ → ℕ → ℕ → List ℕ → List ℕ → Bool
-rolesFit steps people roles allows holds = keeps steps roles allows && keeps people roles holds
+rolesFit actions people roles allows holds = keeps actions roles allows && keeps people roles holds
+
+-- each step's action is one that there is, and 0 stands for a step that there is not
+unfoldable pub labelsFit : ℕ → ℕ → List ℕ → Bool
+labelsFit steps actions labels = every (length labels) (λ s. ltb (row labels s) (cond (ltb s steps) actions 1))
 
 -- the arrows of the four kinds
 abbrev pub arrowRowsFit : ℕ → List ℕ → List ℕ → List ℕ → List ℕ → Bool

@@ -10,6 +10,7 @@ use rules::EXCLUDES;
 use rules::HOLDS;
 use rules::INCLUDES;
 use rules::Job;
+use rules::LABELS;
 use rules::RESPONSES;
 use rules::WORDS;
 
@@ -32,11 +33,14 @@ pub fn job() -> Job {
     g[0] = 3;
     g[1] = 2;
     g[2] = 2;
+    g[3] = 3;
     g[HOLDS] = 1;
     g[HOLDS + 1] = 2;
     g[ALLOWS] = 3;
     g[ALLOWS + 1] = 1;
     g[ALLOWS + 2] = 2;
+    g[LABELS + 1] = 1;
+    g[LABELS + 2] = 2;
     // Publishing waits for the check; a reboot makes the check due and shuts publishing out, and the check lets it in again.
     g[CONDITIONS + 2] = 2;
     g[RESPONSES] = 2;

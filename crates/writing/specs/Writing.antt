@@ -10,7 +10,7 @@ use Rattle.tables.specs.Tables.{countsFit, kindsApart}
 use Rattle.rules.specs.Graph.{Graph, setsFit}
 use Rattle.arrows.specs.Arrows.{arrowsBody}
 use Rattle.layout.specs.Layout.{laid}
-use Rattle.bodies.specs.Bodies.{countsBody, markingBody, rolesBody}
+use Rattle.bodies.specs.Bodies.{countsBody, markingBody, rolesBody, labelsBody}
 
 -- the tables of the four kinds, one after the other
 abbrev pub arrowTable : Graph → List ℕ
@@ -18,11 +18,12 @@ arrowTable g = g .conditions ++ (g .responses ++ (g .includes ++ g .excludes))
 
 abbrev pub bodiesOf : Graph → Marking → List (List ℕ)
 bodiesOf g m =
-    countsBody (g .steps) (g .people) (g .roles)
+    countsBody (g .steps) (g .people) (g .roles) (g .actions)
     ∷ markingBody m
-    ∷ rolesBody (g .steps) (g .allows)
+    ∷ rolesBody (g .actions) (g .allows)
     ∷ rolesBody (g .people) (g .holds)
     ∷ arrowsBody (arrowTable g)
+    ∷ labelsBody (g .steps) (g .labels)
     ∷ []
 
 unfoldable pub sheetBytes : Graph → Marking → List ℕ
@@ -31,7 +32,7 @@ sheetBytes g m = laid (bodiesOf g m)
 -- 2, 4 and 6 as for any graph, and 4 also where the marking has something beyond the counts
 abbrev pub contentLines : Graph → Marking → List Line
 contentLines g m =
-    (Counts, not (countsFit (g .steps) (g .people) (g .roles)))
+    (Counts, not (countsFit (g .steps) (g .people) (g .roles) (g .actions)))
     ∷ (Beyond, not (setsFit g && markingFits (g .steps) m))
     ∷ (Both, not (kindsApart (g .steps) (g .includes) (g .excludes)))
     ∷ []

@@ -11,6 +11,7 @@ ghost use Rattle.layout.specs.Layout.{front};
 ghost use Rattle.writing.specs.Writing.{contentLines, sheetBytes};
 ghost use Rattle.writing.specs.Laws.{turnedOf};
 ghost use Rattle.writing.specs.Parts.{sizesOf, tablesOut, bodiesOut, lengthOut};
+use bodies::Counts;
 use moves::Marking;
 use moves::Refusal;
 use moves::Verdict;
@@ -18,6 +19,7 @@ use rules::ALLOWS;
 use rules::CONDITIONS;
 use rules::HOLDS;
 use rules::Job;
+use rules::LABELS;
 use rules::RESPONSES;
 use rules::WORDS;
 
@@ -28,7 +30,8 @@ pub fn content(g: &Job, m: Marking) -> Verdict
     let steps = g[0];
     let people = g[1];
     let roles = g[2];
-    if !tables::counts_fit(steps, people, roles) {
+    let actions = g[3];
+    if !tables::counts_fit(steps, people, roles, actions) {
         return Verdict::Refused(Refusal::Counts);
     }
     if !moves::inner::fits(steps, m) {
@@ -54,32 +57,35 @@ pub fn size<'a>(g: &'a Job, turned: &'a [u64; 64]) -> usize
 {
     let n = g[0];
     let p = g[1];
+    let a = g[3];
     let w = &g[..];
     let arrows = arrows::size(n as u8, turned, &w[CONDITIONS..ALLOWS]);
-    53 + 2 * (n as usize) + 2 * (p as usize) + arrows
+    59 + 2 * (a as usize) + 2 * (p as usize) + n as usize + arrows
 }
 
 // Byte 0 and the contents.
-fn write_front(n: usize, p: usize, arrows: usize, room: &mut [u8]) -> usize
-    requires { ⌜ (n ≤ 64) × (p ≤ 16) × (arrows ≤ 49152) × (26 ≤ length (now room)) ⌝ }
-    ensures { λ r. ⌜ Spliced (front (sizesOf n p arrows)) 0 (now (room .entry)) (now (room .exit)) r ⌝ }
+fn write_front(n: usize, p: usize, a: usize, arrows: usize, room: &mut [u8]) -> usize
+    requires { ⌜ (n ≤ 64) × (p ≤ 16) × (a ≤ 64) × (arrows ≤ 49152) × (31 ≤ length (now room)) ⌝ }
+    ensures { λ r. ⌜ Spliced (front (sizesOf n p a arrows)) 0 (now (room .entry)) (now (room .exit)) r ⌝ }
 {
-    let sizes = [3, 24, 2 * n, 2 * p, arrows];
+    let sizes = [4, 24, 2 * a, 2 * p, arrows, n];
     layout::write(&sizes, room)
 }
 
-// Bodies 3 to 5.
+// Bodies 3 to 6.
 fn write_tables<'a>(g: &'a Job, turned: &'a [u64; 64], room: &mut [u8], at: usize) -> usize
     requires { ⌜ (graphVerdict (graphOf (now g)) ≡ Verdict.Clear) × (now turned ≡ turnedOf (graphOf (now g))) ⌝ }
     requires { ⌜ at + length (tablesOut (graphOf (now g))) ≤ length (now room) ⌝ }
     ensures { λ r. ⌜ Spliced (tablesOut (graphOf (now (g .entry)))) at (now (room .entry)) (now (room .exit)) r ⌝ }
 {
-    let n = g[0];
-    let p = g[1] as usize;
+    let steps = g[0];
+    let people = g[1] as usize;
+    let actions = g[3] as usize;
     let w = &g[..];
-    let a = bodies::write_roles(n as usize, &w[ALLOWS..HOLDS], room, at);
-    let b = bodies::write_roles(p, &w[HOLDS..WORDS], room, a);
-    arrows::write(n as u8, turned, &w[CONDITIONS..ALLOWS], room, b)
+    let x = bodies::write_rows(2, actions, &w[ALLOWS..HOLDS], room, at);
+    let y = bodies::write_rows(2, people, &w[HOLDS..LABELS], room, x);
+    let z = arrows::write(steps as u8, turned, &w[CONDITIONS..ALLOWS], room, y);
+    bodies::write_rows(1, steps as usize, &w[LABELS..WORDS], room, z)
 }
 
 fn write_bodies<'a>(
@@ -93,9 +99,15 @@ fn write_bodies<'a>(
     requires { ⌜ at + length (bodiesOut (graphOf (now g)) m) ≤ length (now room) ⌝ }
     ensures { λ r. ⌜ Spliced (bodiesOut (graphOf (now (g .entry))) m) at (now (room .entry)) (now (room .exit)) r ⌝ }
 {
-    let a = bodies::write_counts(g[0], g[1], g[2], room, at);
-    let b = bodies::write_marking(m, room, a);
-    write_tables(g, turned, room, b)
+    let c = Counts {
+        steps: g[0],
+        people: g[1],
+        roles: g[2],
+        actions: g[3],
+    };
+    let x = bodies::write_counts(c, room, at);
+    let y = bodies::write_marking(m, room, x);
+    write_tables(g, turned, room, y)
 }
 
 // Writes the whole sheet, of the size that is given, from the start of the room, and gives its length.
@@ -112,6 +124,7 @@ pub fn fill<'a>(
 {
     let n = g[0] as usize;
     let p = g[1] as usize;
-    let at = write_front(n, p, size - (53 + 2 * n + 2 * p), room);
+    let a = g[3] as usize;
+    let at = write_front(n, p, a, size - (59 + 2 * a + 2 * p + n), room);
     write_bodies(g, turned, m, room, at)
 }

@@ -1,7 +1,7 @@
 -- `role_set`: two bytes of the body, or nothing past its end. Assumes nothing.
 use mathlib.Core.Path.{sym}
 use borrow.Author.Needs.{needs}
-use Rattle.bodies.specs.Laws.{set-past}
+use Rattle.bodies.specs.Laws.{row-past}
 use Rattle.bodies.proofs.role_set.Statement.{statement}
 use Rattle.bodies.proofs.role_set.Tie as tie
 
@@ -17,7 +17,7 @@ returns c = search needs
 returns-2 : tie.Need-returns-2
 returns-2 c =
     let a = c .before .before .args in
-    sym (set-past (a .body .now) (a .i) (c .if1 .left))
+    sym (row-past 2 (a .body .now) (a .i) (c .if1 .left))
 
 pub role-set-spec : {M : Type 1} → statement M
 role-set-spec = tie.close (tie.spec mul-at two-requires returns returns-2)

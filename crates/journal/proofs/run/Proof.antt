@@ -71,7 +71,7 @@ fits-requires : tie.Need-fits-requires
 fits-requires c κs =
     let p = c .before .before .before in
     let g : Graph = graph p in
-    let b : Counted (g .steps) (g .people) (g .roles) = clear-counts g (clear p) in
+    let b : Counted (g .steps) (g .people) (g .roles) (g .actions) = clear-counts g (clear p) in
     omega arith
 
 returns-3 : tie.Need-returns-3

@@ -65,7 +65,7 @@ fits-requires c κs =
     let g : Graph = graphOf (a .g .now) in
     let clear : graphVerdict g ≡ Verdict.Clear = sym (c .before .before .before .before .before .check .ensures)
     ∙ c .before .before .before .enum-told .given .1 in
-    let b : Counted (g .steps) (g .people) (g .roles) = clear-counts g clear in
+    let b : Counted (g .steps) (g .people) (g .roles) (g .actions) = clear-counts g clear in
     b .steps-most
 
 returns-3 : tie.Need-returns-3

@@ -46,7 +46,7 @@ counts-fit-requires c κs = search needs
 
 -- the test is on the counts that the sheet says
 counts-said : (c : tie.After-counts-fit) → c .counts-fit .result ≡ countsRight (sheet1 (c .before .before))
-counts-said c = c .counts-fit .ensures ∙ ap (λ (k : CountsOf). countsFit (k .steps) (k .people) (k .roles)) (c .before .counts .ensures)
+counts-said c = c .counts-fit .ensures ∙ ap (λ (k : CountsOf). countsFit (k .steps) (k .people) (k .roles) (k .actions)) (c .before .counts .ensures)
 
 returns-2 : tie.Need-returns-2
 returns-2 c =
@@ -65,10 +65,10 @@ opened c =
     record {
       placed = layout-placed (sheet2 c) (fits1 (c .before .before .before));
       said = c .before .before .counts .ensures;
-      counted = counts-bound _ _ _ fit;
+      counted = counts-bound _ _ _ _ fit;
     }
 
--- ---- 3. Bodies 3 and 4
+-- ---- 3. Bodies 3, 4 and 6
 
 bodies-match-requires : tie.Need-bodies-match-requires
 bodies-match-requires c κs = opened c
@@ -87,7 +87,7 @@ match3 c = sym (c .before .bodies-match .ensures) ∙ not-false _ (c .if3 .left)
 left3 : (c : tie.Else3) → readVerdict (sheet3 c) ≡ first (tail (tail (tail (readLines (sheet3 c)))))
 left3 c = left2 (c .before .before) ∙ passed Bodies _ _ (match3 c)
 
--- ---- 4. The first marking and the role sets
+-- ---- 4. The first marking, the role sets and the actions
 
 sets-inside-requires : tie.Need-sets-inside-requires
 sets-inside-requires c κs = (opened (c .before .before), bodies-matched (sheet3 c) (match3 c))

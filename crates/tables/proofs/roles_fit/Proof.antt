@@ -24,11 +24,11 @@ roles-named-requires c κs = search needs
 roles-named-requires-2 : tie.Need-roles-named-requires-2
 roles-named-requires-2 c κs = search needs
 
-roles-beyond-requires : tie.Need-roles-beyond-requires
-roles-beyond-requires c κs = search needs
+rows-beyond-requires : tie.Need-rows-beyond-requires
+rows-beyond-requires c κs = search needs
 
-roles-beyond-requires-2 : tie.Need-roles-beyond-requires-2
-roles-beyond-requires-2 c κs = search needs
+rows-beyond-requires-2 : tie.Need-rows-beyond-requires-2
+rows-beyond-requires-2 c κs = search needs
 
 full-requires : tie.Need-full-requires
 full-requires c κs = search needs
@@ -37,9 +37,9 @@ returns-2 : tie.Need-returns-2
 returns-2 c =
     let a = c .before .before .before .before .before .before .before .before .args in
     let l = c .before .before .before .before .before .before .before .before .pre in
-    roles-keep (a .steps) (a .people) (a .roles) (a .allows .now) (a .holds .now) _ _ _ _ _ (c .full .ensures) (omega arith) (omega arith)
+    roles-keep (a .actions) (a .people) (a .roles) (a .allows .now) (a .holds .now) _ _ _ _ _ (c .full .ensures) (omega arith) (omega arith)
     (c .before .before .roles-named .ensures) (c .before .roles-named2 .ensures)
-    (c .before .before .before .before .roles-beyond .ensures) (c .before .before .before .roles-beyond2 .ensures)
+    (c .before .before .before .before .rows-beyond .ensures) (c .before .before .before .rows-beyond2 .ensures)
 
 pub roles-fit-spec : {M : Type 1} → statement M
 roles-fit-spec =
@@ -47,8 +47,8 @@ roles-fit-spec =
     (tie.spec
     roles-full-requires
     returns
-    roles-beyond-requires
-    roles-beyond-requires-2
+    rows-beyond-requires
+    rows-beyond-requires-2
     roles-named-requires
     roles-named-requires-2
     full-requires

@@ -1,4 +1,4 @@
--- `tables::roles_full`: as `roles_fit`, with nothing beyond 64 steps. Assumes nothing.
+-- `tables::roles_full`: as `roles_fit`, with nothing beyond 64 actions. Assumes nothing.
 use native.Mathlib.Omega.{arith}
 use borrow.Author.Needs.{needs}
 use Rattle.tables.specs.Laws.{roles-keep, beyond-64}
@@ -11,8 +11,8 @@ roles-named-requires c κs = search needs
 roles-named-requires-2 : tie.Need-roles-named-requires-2
 roles-named-requires-2 c κs = search needs
 
-roles-beyond-requires : tie.Need-roles-beyond-requires
-roles-beyond-requires c κs = search needs
+rows-beyond-requires : tie.Need-rows-beyond-requires
+rows-beyond-requires c κs = search needs
 
 full-requires : tie.Need-full-requires
 full-requires c κs = search needs
@@ -23,8 +23,8 @@ returns c =
     let l = c .before .before .before .before .before .before .pre in
     roles-keep 64 (a .people) (a .roles) (a .allows .now) (a .holds .now) _ _ _ 0 _ (c .full .ensures) (omega arith) (omega arith)
     (c .before .before .roles-named .ensures) (c .before .roles-named2 .ensures) (beyond-64 (a .allows .now) (l .2))
-    (c .before .before .before .roles-beyond .ensures)
+    (c .before .before .before .rows-beyond .ensures)
 
 pub roles-full-spec : {M : Type 1} → statement M
 roles-full-spec =
-    tie.close (tie.spec roles-beyond-requires roles-named-requires roles-named-requires-2 full-requires returns)
+    tie.close (tie.spec rows-beyond-requires roles-named-requires roles-named-requires-2 full-requires returns)

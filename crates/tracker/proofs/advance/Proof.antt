@@ -8,7 +8,7 @@ use Rattle.moves.specs.declared.Asked.{Asked}
 use Rattle.moves.specs.declared.Marking.{Marking}
 use Rattle.moves.specs.declared.Verdict.{Verdict}
 use Rattle.moves.specs.First.{first}
-use Rattle.rules.specs.Graph.{Graph, graphOf}
+use Rattle.rules.specs.Graph.{Graph, graphOf, graphVerdict}
 use Rattle.rules.specs.Answers.{afterEntry}
 use Rattle.rules.specs.Laws.{clear-counts}
 use Rattle.rules.specs.Asking.{entry-allowed}
@@ -30,6 +30,9 @@ graph p = graphOf (start p .args .g .now)
 
 clear : (p : tie.After-ranked) → first (startLines (graph p) (start p .args .t .marking)) ≡ Verdict.Clear
 clear p = sym (p .before .before .before .before .sound .ensures) ∙ p .before .before .enum-told .given .1
+
+lawful : (p : tie.After-ranked) → graphVerdict (graph p) ≡ Verdict.Clear
+lawful p = clear-graph (graph p) (start p .args .t .marking) (clear p)
 
 -- ---- where there is such a rank
 
@@ -68,9 +71,7 @@ returns-2 c =
     sym (step-unranked (graph p) (a .t) (a .e) (clear p) (sym (p .ranked .ensures) ∙ not-true _ (c .if1 .taken)))
 
 ask-entry-requires : tie.Need-ask-entry-requires
-ask-entry-requires c κs =
-    let p = looked c in
-    clear-graph (graph p) (start p .args .t .marking) (clear p)
+ask-entry-requires c κs = lawful (looked c)
 
 enum-known-r : tie.Need-enum-known-r
 enum-known-r c = search needs
@@ -84,17 +85,17 @@ taken-requires c κs =
     let p = looked (asked .before) in
     let a = start p .args in
     let g : Graph = graph p in
-    let k = clear-counts g (clear-graph g (a .t .marking) (clear p)) in
+    let k = clear-counts g (lawful p) in
     let n : Named g (a .e) =
     known-named g (a .e) (entry-allowed g (a .t .marking) (a .e) (sym (asked .ask-entry .ensures) ∙ c .enum-told2 .given .1)) in
-    (omega (arith, n .person-in, k .people-most), omega (arith, n .step-in, k .steps-most))
+    (lawful p, omega (arith, n .person-in, k .people-most), omega (arith, n .step-in, k .steps-most))
 
 follow-requires : tie.Need-follow-requires
 follow-requires c κs =
     let passed = c .before .before .before .before in
     let p = looked passed in
     let a = start p .args in
-    let most : graph p .steps ≤ 64 = clear-counts (graph p) (clear-graph (graph p) (a .t .marking) (clear p)) .steps-most in
+    let most : graph p .steps ≤ 64 = clear-counts (graph p) (lawful p) .steps-most in
     let i : a .t .rank .0 ≤ graph p .steps = rank-most (graph p .steps) (a .t .rank .0) (rank passed) in
     omega arith
 

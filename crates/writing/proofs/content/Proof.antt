@@ -20,26 +20,29 @@ element-copy-out-people c = search needs
 element-copy-out-roles : tie.Need-element-copy-out-roles
 element-copy-out-roles c = search needs
 
+element-copy-out-actions : tie.Need-element-copy-out-actions
+element-copy-out-actions c = search needs
+
 counts-fit-requires : tie.Need-counts-fit-requires
 counts-fit-requires c κs = search needs
 
 returns : tie.Need-returns
 returns c =
-    let a = c .before .before .before .before .before .args in
+    let a = c .before .before .before .before .before .before .args in
     sym (content-counts (graphOf (a .g .now)) (a .m) (sym (c .before .counts-fit .ensures) ∙ not-true _ (c .if1 .taken)))
 
 -- once the counts are right
 abbrev graph : tie.Else1 → Graph
-graph c = graphOf (c .before .before .before .before .before .args .g .now)
+graph c = graphOf (c .before .before .before .before .before .before .args .g .now)
 
 abbrev marking : tie.Else1 → Marking
-marking c = c .before .before .before .before .before .args .m
+marking c = c .before .before .before .before .before .before .args .m
 
-counts-right : (c : tie.Else1) → countsFit (graph c .steps) (graph c .people) (graph c .roles) ≡ true
+counts-right : (c : tie.Else1) → countsFit (graph c .steps) (graph c .people) (graph c .roles) (graph c .actions) ≡ true
 counts-right c = sym (c .before .counts-fit .ensures) ∙ not-false _ (c .if1 .left)
 
-counted : (c : tie.Else1) → Counted (graph c .steps) (graph c .people) (graph c .roles)
-counted c = counts-bound (graph c .steps) (graph c .people) (graph c .roles) (counts-right c)
+counted : (c : tie.Else1) → Counted (graph c .steps) (graph c .people) (graph c .roles) (graph c .actions)
+counted c = counts-bound (graph c .steps) (graph c .people) (graph c .roles) (graph c .actions) (counts-right c)
 
 fits-requires : tie.Need-fits-requires
 fits-requires c κs = counted c .steps-most
@@ -66,6 +69,7 @@ content-spec =
     element-copy-out-steps
     element-copy-out-people
     element-copy-out-roles
+    element-copy-out-actions
     counts-fit-requires
     returns
     fits-requires

@@ -20,11 +20,14 @@ use Rattle.writing.proofs.fill.Tie as tie
 abbrev graph : tie.Start → Graph
 graph c = graphOf (c .args .g .now)
 
-counted : (c : tie.Start) → Counted (graph c .steps) (graph c .people) (graph c .roles)
+counted : (c : tie.Start) → Counted (graph c .steps) (graph c .people) (graph c .roles) (graph c .actions)
 counted c = clear-counts (graph c) (c .pre .0 .0)
 
 -- what is left of the size is that of the arrows
-arrows-left : (c : tie.Start) → c .args .size - (53 + 2 * graph c .steps + 2 * graph c .people) ≡ length (arrowsOut (graph c))
+abbrev left : tie.Start → ℕ
+left c = c .args .size - (59 + 2 * graph c .actions + 2 * graph c .people + graph c .steps)
+
+arrows-left : (c : tie.Start) → left c ≡ length (arrowsOut (graph c))
 arrows-left c =
     let e : c .args .size ≡ lengthOut (graph c) = c .pre .1 .0 in
     omega arith
@@ -35,36 +38,40 @@ element-copy-out-n c = search needs
 element-copy-out-p : tie.Need-element-copy-out-p
 element-copy-out-p c = search needs
 
+element-copy-out-a : tie.Need-element-copy-out-a
+element-copy-out-a c = search needs
+
 mul-write-front : tie.Need-mul-write-front
-mul-write-front c = omega (arith, counted (c .before .before .before))
+mul-write-front c = omega (arith, counted (c .before .before .before .before))
 
 add-write-front : tie.Need-add-write-front
-add-write-front c = omega (arith, counted (c .before .before .before))
+add-write-front c = omega (arith, counted (c .before .before .before .before))
 
 mul-write-front-2 : tie.Need-mul-write-front-2
-mul-write-front-2 c = omega (arith, counted (c .before .before .before))
+mul-write-front-2 c = omega (arith, counted (c .before .before .before .before))
 
 add-write-front-2 : tie.Need-add-write-front-2
-add-write-front-2 c = omega (arith, counted (c .before .before .before))
+add-write-front-2 c = omega (arith, counted (c .before .before .before .before))
+
+add-write-front-3 : tie.Need-add-write-front-3
+add-write-front-3 c = omega (arith, counted (c .before .before .before .before))
 
 sub-write-front : tie.Need-sub-write-front
-sub-write-front c = omega (arith, c .before .before .before .pre .1 .0)
+sub-write-front c = omega (arith, c .before .before .before .before .pre .1 .0)
 
 write-front-requires : tie.Need-write-front-requires
 write-front-requires c κs =
-    let start = c .before .before .before .before in
+    let start = c .before .before .before .before .before in
     let few = counted start in
     let most : length (arrowsOut (graph start)) ≤ 49152 = arrows-most (start .args .g .now) (start .pre .0 .0) in
     omega (arith, arrows-left start, start .pre .1)
 
 abbrev start1 : tie.After-write-front → tie.Start
-start1 c = c .before .before .before .before .before
+start1 c = c .before .before .before .before .before .before
 
 -- the front that is written is that of the sheet
-front-same : (c : tie.Start)
-    → front (sizesOf (graph c .steps) (graph c .people) (c .args .size - (53 + 2 * graph c .steps + 2 * graph c .people))) ≡ frontOut
-    (graph c)
-front-same c = ap (λ (k : ℕ). front (sizesOf (graph c .steps) (graph c .people) k)) (arrows-left c)
+front-same : (c : tie.Start) → front (sizesOf (graph c .steps) (graph c .people) (graph c .actions) (left c)) ≡ frontOut (graph c)
+front-same c = ap (λ (k : ℕ). front (sizesOf (graph c .steps) (graph c .people) (graph c .actions) k)) (arrows-left c)
 
 write-bodies-requires : tie.Need-write-bodies-requires
 write-bodies-requires c κs =
@@ -99,10 +106,12 @@ fill-spec =
     (tie.spec
     element-copy-out-n
     element-copy-out-p
+    element-copy-out-a
     mul-write-front
     add-write-front
     mul-write-front-2
     add-write-front-2
+    add-write-front-3
     sub-write-front
     write-front-requires
     write-bodies-requires

@@ -17,7 +17,7 @@ use Rattle.writing.specs.Parts.{arrowsOut}
 use Rattle.writing.proofs.size.Statement.{statement}
 use Rattle.writing.proofs.size.Tie as tie
 
-counted : (c : tie.Start) → Counted (row (c .args .g .now) 0) (row (c .args .g .now) 1) (row (c .args .g .now) 2)
+counted : (c : tie.Start) → let g = graphOf (c .args .g .now) in Counted (g .steps) (g .people) (g .roles) (g .actions)
 counted c = clear-counts (graphOf (c .args .g .now)) (c .pre .0)
 
 element-copy-out-n : tie.Need-element-copy-out-n
@@ -26,8 +26,11 @@ element-copy-out-n c = search needs
 element-copy-out-p : tie.Need-element-copy-out-p
 element-copy-out-p c = search needs
 
+element-copy-out-a : tie.Need-element-copy-out-a
+element-copy-out-a c = search needs
+
 cast-size : tie.Need-cast-size
-cast-size c = omega (arith, counted (c .before .before .before))
+cast-size c = omega (arith, counted (c .before .before .before .before))
 
 sub-size : tie.Need-sub-size
 sub-size c = search needs
@@ -40,13 +43,13 @@ part-size-end c = search needs
 
 size-requires : tie.Need-size-requires
 size-requires c κs =
-    let start = c .before .before .before .before .before in
+    let start = c .before .before .before .before .before .before in
     let block = start .args .g .now in
-    let whole : length block ≡ 339 = c .before .before .w .given .0 in
-    (part-kept block (start .pre .0), rows-at 3 256 block (omega arith), start .pre .1 ∙ ap (turnedIn (row block 0)) (kinds-joined block))
+    let whole : length block ≡ 404 = c .before .before .w .given .0 in
+    (part-kept block (start .pre .0), rows-at 4 256 block (omega arith), start .pre .1 ∙ ap (turnedIn (row block 0)) (kinds-joined block))
 
 abbrev start : tie.After-size → tie.Start
-start c = c .before .before .before .before .before .before
+start c = c .before .before .before .before .before .before .before
 
 arrows-said : (c : tie.After-size) → c .size .result ≡ length (arrowsOut (graphOf (start c .args .g .now)))
 arrows-said c = c .size .ensures ∙ ap (λ (t : List ℕ). length (arrowsBody t)) (sym (kinds-joined (start c .args .g .now)))
@@ -71,6 +74,9 @@ add-result-2 c = omega (arith, counted (start c), arrows-few c)
 add-result-3 : tie.Need-add-result-3
 add-result-3 c = omega (arith, counted (start c), arrows-few c)
 
+add-result-4 : tie.Need-add-result-4
+add-result-4 c = omega (arith, counted (start c), arrows-few c)
+
 returns : tie.Need-returns
 returns c = omega (arith, arrows-said c)
 
@@ -80,6 +86,7 @@ size-spec =
     (tie.spec
     element-copy-out-n
     element-copy-out-p
+    element-copy-out-a
     cast-size
     sub-size
     part-size-start
@@ -90,4 +97,5 @@ size-spec =
     mul-result-2
     add-result-2
     add-result-3
+    add-result-4
     returns)

@@ -35,8 +35,8 @@ part-turned-end c = search needs
 turned-requires : tie.Need-turned-requires
 turned-requires c κs =
     let start = c .before .before .before in
-    let whole : length (start .args .g .now) ≡ 339 = c .before .w .given .0 in
-    let rows : length (tableAt 3 64 (start .args .g .now)) ≡ 64 = rows-at 3 64 (start .args .g .now) (omega arith) in
+    let whole : length (start .args .g .now) ≡ 404 = c .before .w .given .0 in
+    let rows : length (tableAt 4 64 (start .args .g .now)) ≡ 64 = rows-at 4 64 (start .args .g .now) (omega arith) in
     omega (arith, few start)
 
 returns : tie.Need-returns

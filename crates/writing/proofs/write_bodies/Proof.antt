@@ -7,9 +7,9 @@ use lib.ListN.{length}
 use borrow.Author.Needs.{needs}
 use Rattle.rules.specs.Graph.{Graph, graphOf}
 use Rattle.numbers.specs.Laws.{spliced-then, room-first, room-then}
-use Rattle.bodies.specs.Bodies.{countsBody, markingBody}
+use Rattle.bodies.specs.Bodies.{markingBody}
 use Rattle.bodies.specs.Laws.{length-counts, length-marking}
-use Rattle.writing.specs.Parts.{tablesOut}
+use Rattle.writing.specs.Parts.{countsOut, tablesOut}
 use Rattle.writing.proofs.write_bodies.Statement.{statement}
 use Rattle.writing.proofs.write_bodies.Tie as tie
 
@@ -17,7 +17,7 @@ abbrev graph : tie.Start → Graph
 graph c = graphOf (c .args .g .now)
 
 abbrev counts : tie.Start → List ℕ
-counts c = countsBody (graph c .steps) (graph c .people) (graph c .roles)
+counts c = countsOut (graph c)
 
 abbrev marking : tie.Start → List ℕ
 marking c = markingBody (c .args .m)
@@ -25,23 +25,27 @@ marking c = markingBody (c .args .m)
 abbrev tables : tie.Start → List ℕ
 tables c = tablesOut (graph c)
 
-element-copy-out-write-counts : tie.Need-element-copy-out-write-counts
-element-copy-out-write-counts c = search needs
+element-copy-out-t11 : tie.Need-element-copy-out-t11
+element-copy-out-t11 c = search needs
 
-element-copy-out-write-counts-2 : tie.Need-element-copy-out-write-counts-2
-element-copy-out-write-counts-2 c = search needs
+element-copy-out-t14 : tie.Need-element-copy-out-t14
+element-copy-out-t14 c = search needs
 
-element-copy-out-write-counts-3 : tie.Need-element-copy-out-write-counts-3
-element-copy-out-write-counts-3 c = search needs
+element-copy-out-t17 : tie.Need-element-copy-out-t17
+element-copy-out-t17 c = search needs
+
+element-copy-out-t20 : tie.Need-element-copy-out-t20
+element-copy-out-t20 c = search needs
 
 write-counts-requires : tie.Need-write-counts-requires
 write-counts-requires c κs =
-    let start = c .before .before .before .before .before in
-    let three : length (counts start) ≡ 3 = length-counts (graph start .steps) (graph start .people) (graph start .roles) in
+    let start = c .before .before .before .before .before .before in
+    let g = graph start in
+    let four : length (counts start) ≡ 4 = length-counts (g .steps) (g .people) (g .roles) (g .actions) in
     omega (arith, room-first (counts start) (marking start ++ tables start) _ _ (start .pre .1))
 
 abbrev start1 : tie.After-write-counts → tie.Start
-start1 c = c .before .before .before .before .before .before
+start1 c = c .before .before .before .before .before .before .before
 
 write-marking-requires : tie.Need-write-marking-requires
 write-marking-requires c κs =
@@ -78,9 +82,10 @@ pub write-bodies-spec : {M : Type 1} → statement M
 write-bodies-spec =
     tie.close
     (tie.spec
-    element-copy-out-write-counts
-    element-copy-out-write-counts-2
-    element-copy-out-write-counts-3
+    element-copy-out-t11
+    element-copy-out-t14
+    element-copy-out-t17
+    element-copy-out-t20
     write-counts-requires
     write-marking-requires
     write-tables-requires

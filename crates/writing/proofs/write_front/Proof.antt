@@ -3,15 +3,15 @@ use Prim.Native.Nat.{_*_}
 use native.Mathlib.Omega.{arith}
 use lib.Dec.{lit<}
 use borrow.Author.Needs.{needs}
-use Rattle.writing.specs.Parts.{five-small}
+use Rattle.writing.specs.Parts.{six-small}
 use Rattle.writing.proofs.write_front.Statement.{statement}
 use Rattle.writing.proofs.write_front.Tie as tie
 
-mul-t6 : tie.Need-mul-t6
-mul-t6 c = search needs
-
 mul-t7 : tie.Need-mul-t7
 mul-t7 c = search needs
+
+mul-t8 : tie.Need-mul-t8
+mul-t8 c = search needs
 
 slice-aggregate-write : tie.Need-slice-aggregate-write
 slice-aggregate-write c = search needs
@@ -19,7 +19,8 @@ slice-aggregate-write c = search needs
 write-requires : tie.Need-write-requires
 write-requires c κs =
     let a = c .before .before .before .args in
-    let small = five-small 3 24 (2 * a .n) (2 * a .p) (a .arrows) (lit< tt) (lit< tt) (omega arith) (omega arith) (omega arith) in
+    let small = six-small 4 24 (2 * a .a) (2 * a .p) (a .arrows) (a .n) (lit< tt) (lit< tt) (omega arith) (omega arith) (omega arith)
+    (omega arith) in
     (search needs, search needs, small)
 
 same-length : tie.Need-same-length
@@ -32,8 +33,8 @@ pub write-front-spec : {M : Type 1} → statement M
 write-front-spec =
     tie.close
     (tie.spec
-    mul-t6
     mul-t7
+    mul-t8
     slice-aggregate-write
     write-requires
     same-length

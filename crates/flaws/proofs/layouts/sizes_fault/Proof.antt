@@ -23,16 +23,18 @@ returns : tie.Need-returns
 unfolding sizesFit
 returns c =
     let second = c .before .before in
-    let s = second .before .before .before .args .s .now in
-    let one = ap (λ (k : ℕ). eqb k 3) (sym (second .before .size .ensures .0)) ∙ ne-eqb _ _ (c .if1 .taken) in
+    let a = second .before .before .before .args in
+    let s = a .s .now in
+    let one = ap (λ (k : ℕ). eqb k (a .wants)) (sym (second .before .size .ensures .0)) ∙ ne-eqb _ _ (c .if1 .taken) in
     sym (ap (λ (x : Bool). x && eqb (sizeAt s 1) 24 && eqb (sizeAt s 4 % 3) 0) one)
 
 returns-2 : tie.Need-returns-2
 unfolding sizesFit
 returns-2 c =
     let second = c .before .before .before in
-    let s = second .before .before .before .args .s .now in
-    let one = ap (λ (k : ℕ). eqb k 3) (sym (second .before .size .ensures .0)) ∙ eq-eqb _ _ (c .before .if1 .left) in
+    let a = second .before .before .before .args in
+    let s = a .s .now in
+    let one = ap (λ (k : ℕ). eqb k (a .wants)) (sym (second .before .size .ensures .0)) ∙ eq-eqb _ _ (c .before .if1 .left) in
     let two = ap (λ (k : ℕ). eqb k 24) (sym (second .size2 .ensures .0)) ∙ ne-eqb _ _ (c .if2 .taken) in
     sym (ap₂ (λ (x y : Bool). x && y && eqb (sizeAt s 4 % 3) 0) one two)
 
@@ -41,7 +43,8 @@ unfolding sizesFit
 returns-3 c =
     let third = c .before .before .before in
     let second = third .before in
-    let one = ap (λ (k : ℕ). eqb k 3) (sym (second .before .size .ensures .0)) ∙ eq-eqb _ _ (c .before .before .if1 .left) in
+    let a = second .before .before .before .args in
+    let one = ap (λ (k : ℕ). eqb k (a .wants)) (sym (second .before .size .ensures .0)) ∙ eq-eqb _ _ (c .before .before .if1 .left) in
     let two = ap (λ (k : ℕ). eqb k 24) (sym (second .size2 .ensures .0)) ∙ eq-eqb _ _ (c .before .if2 .left) in
     let five = ap (λ (k : ℕ). eqb (k % 3) 0) (sym (third .size3 .ensures .0)) ∙ ne-eqb _ _ (c .if3 .taken) in
     sym (ap₂ (λ (x y : Bool). x && y) (ap₂ (λ (x y : Bool). x && y) one two) five)
@@ -51,7 +54,8 @@ unfolding sizesFit
 returns-4 c =
     let third = c .before .before .before in
     let second = third .before in
-    let one = ap (λ (k : ℕ). eqb k 3) (sym (second .before .size .ensures .0)) ∙ eq-eqb _ _ (c .before .before .if1 .left) in
+    let a = second .before .before .before .args in
+    let one = ap (λ (k : ℕ). eqb k (a .wants)) (sym (second .before .size .ensures .0)) ∙ eq-eqb _ _ (c .before .before .if1 .left) in
     let two = ap (λ (k : ℕ). eqb k 24) (sym (second .size2 .ensures .0)) ∙ eq-eqb _ _ (c .before .if2 .left) in
     let five = ap (λ (k : ℕ). eqb (k % 3) 0) (sym (third .size3 .ensures .0)) ∙ eq-eqb _ _ (c .if3 .left) in
     sym (ap₂ (λ (x y : Bool). x && y) (ap₂ (λ (x y : Bool). x && y) one two) five)

@@ -1,23 +1,17 @@
--- `pointed::wrong_at` ends: the arrows that there can be fall. Assumes nothing.
+-- `pointed::wrong_at` ends: the arrows left fall. Assumes nothing.
 use Prim.Native.Nat.{_≤_, _-_}
 use borrow.Author.Needs.{needs}
 use Rattle.flaws.proofs.pointed.wrong_at.Statement.{statement}
 use Rattle.flaws.proofs.pointed.wrong_at.Tie as tie
 
 abbrev Inv-loop : tie.InvT-loop
-Inv-loop s from n k₀ k = (k ≤ 12288)
+Inv-loop body n count k₀ k = (k ≤ count)
 
 abbrev μ-loop : tie.MeasureT-loop
-μ-loop s from n k₀ k = 12288 - k
+μ-loop body n count k₀ k = count - k
 
 loop-holds : tie.Need-loop-holds Inv-loop μ-loop
 loop-holds c = search needs
-
-mul-wrong-with : tie.Need-mul-wrong-with Inv-loop μ-loop
-mul-wrong-with c = search needs
-
-add-wrong-with : tie.Need-add-wrong-with Inv-loop μ-loop
-add-wrong-with c = search needs
 
 wrong-with-requires : tie.Need-wrong-with-requires Inv-loop μ-loop
 wrong-with-requires c κs = search needs
@@ -47,8 +41,6 @@ wrong-at-spec =
     Inv-loop
     μ-loop
     loop-holds
-    mul-wrong-with
-    add-wrong-with
     wrong-with-requires
     is-wrong-requires
     returns

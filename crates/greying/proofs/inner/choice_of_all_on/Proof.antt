@@ -48,8 +48,8 @@ returns-2 c =
     let a = start .args in
     let g : Graph = graphOf (a .g .now) in
     let fit = sym (c .before .before .before .before .before .fits2 .ensures) ∙ not-false _ (c .before .before .before .before .if1 .left) in
-    let whole : length (a .g .now) ≡ 339 = c .before .before .before .w .given .0 in
-    let sixteen : length (g .holds) ≡ 16 = rows-at 323 16 (a .g .now) (omega arith) in
+    let whole : length (a .g .now) ≡ 404 = c .before .before .before .w .given .0 in
+    let sixteen : length (g .holds) ≡ 16 = rows-at 324 16 (a .g .now) (omega arith) in
     let held = ap (stepsFor g (a .m)) (c .before .roles-named .ensures ∙ ap (λ (k : ℕ). gather k (rolesHeld g)) sixteen) in
     ap Choice.Steps (c .steps-for .ensures ∙ held ∙ steps-of-all g (a .m) (start .pre) fit) ∙ sym (all-steps g (a .m) (start .pre) fit)
 

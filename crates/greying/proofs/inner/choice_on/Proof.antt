@@ -45,7 +45,7 @@ row-at-requires : tie.Need-row-at-requires
 row-at-requires c κs =
     let start = c .before .before .before .before .before in
     let most = clear-counts (graphOf (start .args .g .now)) (start .pre) .people-most in
-    (omega arith, omega arith)
+    (start .pre, omega arith, omega arith)
 
 steps-for-requires : tie.Need-steps-for-requires
 steps-for-requires c κs = search needs

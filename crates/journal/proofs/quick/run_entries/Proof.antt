@@ -91,9 +91,9 @@ taken-requires c κs =
     let p = c .before in
     let g : Graph = graph (turn p) in
     let e = entered p .entry-at .result in
-    let b : Counted (g .steps) (g .people) (g .roles) = clear-counts g (start (turn p) .pre .0) in
+    let b : Counted (g .steps) (g .people) (g .roles) (g .actions) = clear-counts g (start (turn p) .pre .0) in
     let n : Named g e = allowed-named g (turn p .loop .at) e (sym (p .allowed .ensures) ∙ not-false _ (c .if1 .left)) in
-    (omega arith, omega arith)
+    (start (turn p) .pre .0, omega arith, omega arith)
 
 add-k : tie.Need-add-k Inv-loop μ-loop
 add-k c = search needs

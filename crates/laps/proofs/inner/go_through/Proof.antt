@@ -66,21 +66,19 @@ returns c =
 
 taken-requires : tie.Need-taken-requires Inv-loop μ-loop
 taken-requires c κs =
-    let a = c .before .before .before .before .before .before .before .args in
-    let g : Graph = graphOf (a .g .now) in
-    let b : Counted (g .steps) (g .people) (g .roles) =
-    clear-counts g (c .before .before .before .before .before .before .before .pre .0) in
+    let start = c .before .before .before .before .before .before .before in
+    let g : Graph = graphOf (start .args .g .now) in
+    let b : Counted (g .steps) (g .people) (g .roles) (g .actions) = clear-counts g (start .pre .0) in
     let n : Named g (c .before .before .before .entry-at .result) =
     allowed-named g (c .before .before .before .before .before .loop .at) (c .before .before .before .entry-at .result)
     (sym (c .before .allowed .ensures) ∙ not-false _ (c .if1 .left)) in
-    (omega arith, omega arith)
+    (start .pre .0, omega arith, omega arith)
 
 remain-requires : tie.Need-remain-requires Inv-loop μ-loop
 remain-requires c κs =
-    let a = c .before .before .before .before .before .before .before .before .args in
-    let g : Graph = graphOf (a .g .now) in
-    let b : Counted (g .steps) (g .people) (g .roles) =
-    clear-counts g (c .before .before .before .before .before .before .before .before .pre .0) in
+    let start = c .before .before .before .before .before .before .before .before in
+    let g : Graph = graphOf (start .args .g .now) in
+    let b : Counted (g .steps) (g .people) (g .roles) (g .actions) = clear-counts g (start .pre .0) in
     let n : Named g (c .before .before .before .before .entry-at .result) =
     allowed-named g (c .before .before .before .before .before .before .loop .at) (c .before .before .before .before .entry-at .result)
     (sym (c .before .before .allowed .ensures) ∙ not-false _ (c .before .if1 .left)) in

@@ -61,7 +61,7 @@ row-at-requires : tie.Need-row-at-requires
 row-at-requires c κs =
     let known = c .before .before .before .before .before .before in
     let k = clear-counts (graphOf (known .args .g .now)) (known .pre) in
-    (omega (arith, k .people-most), omega (arith, k .steps-most))
+    (known .pre, omega (arith, k .people-most), omega (arith, k .steps-most))
 
 ask-row-requires : tie.Need-ask-row-requires
 ask-row-requires c κs =

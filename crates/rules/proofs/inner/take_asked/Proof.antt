@@ -24,7 +24,7 @@ taken-requires c κs =
     let found = allowed-known g (a .m) (a .e) (sym (c .before .before .pre) ∙ c .enum-told .given .1) in
     let k = clear-counts g (found .0) in
     let n : Named g (a .e) = known-named g (a .e) (found .1) in
-    (omega (arith, n .person-in, k .people-most), omega (arith, n .step-in, k .steps-most))
+    (found .0, omega (arith, n .person-in, k .people-most), omega (arith, n .step-in, k .steps-most))
 
 enum-known-o : tie.Need-enum-known-o
 enum-known-o c = search needs

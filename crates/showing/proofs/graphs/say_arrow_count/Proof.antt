@@ -5,10 +5,10 @@ use Rattle.showing.proofs.graphs.say_arrow_count.Statement.{statement}
 use Rattle.showing.proofs.graphs.say_arrow_count.Tie as tie
 
 abbrev Inv-loop : tie.InvT-loop
-Inv-loop page g total₀ i₀ t5 total i = (i ≤ 259) × (total ≤ 64 * i)
+Inv-loop page g total₀ i₀ t5 total i = (i ≤ 260) × (total ≤ 64 * i)
 
 abbrev μ-loop : tie.MeasureT-loop
-μ-loop page g total₀ i₀ t5 total i = 259 - i
+μ-loop page g total₀ i₀ t5 total i = 260 - i
 
 loop-holds : tie.Need-loop-holds Inv-loop μ-loop
 loop-holds c = search needs

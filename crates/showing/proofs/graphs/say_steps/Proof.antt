@@ -13,20 +13,11 @@ abbrev μ-loop : tie.MeasureT-loop
 loop-holds : tie.Need-loop-holds Inv-loop μ-loop
 loop-holds c = search needs
 
+cast-if1 : tie.Need-cast-if1 Inv-loop μ-loop
+cast-if1 c = search needs
+
 element-copy-out-if1 : tie.Need-element-copy-out-if1 Inv-loop μ-loop
 element-copy-out-if1 c = search needs
-
-cast-say-step : tie.Need-cast-say-step Inv-loop μ-loop
-cast-say-step c = search needs
-
-add-say-step : tie.Need-add-say-step Inv-loop μ-loop
-add-say-step c = search needs
-
-mul-say-step : tie.Need-mul-say-step Inv-loop μ-loop
-mul-say-step c = search needs
-
-element-copy-out-say-step : tie.Need-element-copy-out-say-step Inv-loop μ-loop
-element-copy-out-say-step c = search needs
 
 say-step-requires : tie.Need-say-step-requires Inv-loop μ-loop
 say-step-requires c κs = search needs
@@ -50,11 +41,8 @@ say-steps-spec =
     Inv-loop
     μ-loop
     loop-holds
+    cast-if1
     element-copy-out-if1
-    cast-say-step
-    add-say-step
-    mul-say-step
-    element-copy-out-say-step
     say-step-requires
     add-s
     loop-less

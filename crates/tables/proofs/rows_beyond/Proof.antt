@@ -1,4 +1,4 @@
--- `tables::roles_beyond`: found is what the rows passed name, from the count on. Assumes nothing.
+-- `tables::rows_beyond`: found is what the rows passed name, from the count on. Assumes nothing.
 use Prim.Native.Nat.{ℕ, _≤_, _-_}
 use mathlib.Core.Bool.{Bool, cond}
 use mathlib.Core.Path.{_≡_, _∙_, sym, ap, ap₂}
@@ -12,8 +12,8 @@ use Rattle.sets.specs.Laws.{gather-more}
 use Rattle.tables.specs.Tables.{row}
 use Rattle.tables.specs.Gathered.{beyond}
 use Rattle.tables.specs.Laws.{gather-front}
-use Rattle.tables.proofs.roles_beyond.Statement.{statement}
-use Rattle.tables.proofs.roles_beyond.Tie as tie
+use Rattle.tables.proofs.rows_beyond.Statement.{statement}
+use Rattle.tables.proofs.rows_beyond.Tie as tie
 
 abbrev Inv-loop : tie.InvT-loop
 Inv-loop table count found₀ i₀ found i = (count ≤ i) × (i ≤ length table) × (found ≡ gather i (beyond count (row table)))
@@ -56,8 +56,8 @@ returns c =
     ∙ ap (λ (k : ℕ). gather k (beyond (a .count) (row (a .table .now))))
     (let e : c .before .loop .i ≡ length (a .table .now) = omega arith in e)
 
-pub roles-beyond-spec : {M : Type 1} → statement M
-roles-beyond-spec =
+pub rows-beyond-spec : {M : Type 1} → statement M
+rows-beyond-spec =
     tie.close
     (tie.spec
     Inv-loop
