@@ -51,12 +51,14 @@ static int guide_arrows(const uint8_t *arrows, unsigned count, unsigned steps) {
     return 0;
 }
 
-/* Numbers 1 to 6, or 0. */
+/* Numbers 1 to 6, or 0. In five bodies every step is an action of its own. */
 static int guide(const uint8_t *sheet, size_t size) {
-    unsigned offset[5], length[5], end = 26;
-    if (size < 29 || size > 37077 || sheet[0] != 5)
+    if (size == 0 || (sheet[0] != 5 && sheet[0] != 6))
         return 1;
-    for (unsigned i = 0; i < 5; i++) {
+    unsigned bodies = sheet[0], counted = bodies - 2, start = 1 + 5 * bodies, end = start, offset[6], length[6];
+    if (size < start + counted || size > (bodies == 5 ? 37077 : 37147))
+        return 1;
+    for (unsigned i = 0; i < bodies; i++) {
         const uint8_t *line = sheet + 1 + 5 * i;
         offset[i] = two(line + 1);
         length[i] = two(line + 3);
@@ -64,15 +66,19 @@ static int guide(const uint8_t *sheet, size_t size) {
             return 1;
         end += length[i];
     }
-    if (end != size || length[0] != 3 || length[1] != 24 || length[4] % 3 != 0)
+    if (end != size || length[0] != counted || length[1] != 24 || length[4] % 3 != 0)
         return 1;
-    unsigned steps = sheet[26], people = sheet[27], roles = sheet[28];
-    if (steps < 1 || steps > 64 || people < 1 || people > 16 || roles < 1 || roles > 16)
+    const uint8_t *counts = sheet + start;
+    unsigned steps = counts[0], people = counts[1], roles = counts[2], actions = counts[bodies == 5 ? 0 : 3];
+    if (steps < 1 || steps > 64 || people < 1 || people > 16 || roles < 1 || roles > 16 || actions < 1 || actions > 64)
         return 2;
-    if (length[2] != 2 * steps || length[3] != 2 * people)
+    if (length[2] != 2 * actions || length[3] != 2 * people || (bodies == 6 && length[5] != steps))
         return 3;
     if (beyond(sheet + offset[1], 24, steps, 64) || beyond(sheet + offset[2], length[2] + length[3], roles, 16))
         return 4;
+    for (unsigned s = 0; bodies == 6 && s < steps; s++)
+        if (sheet[offset[5] + s] >= actions)
+            return 4;
     return guide_arrows(sheet + offset[4], length[4] / 3, steps);
 }
 

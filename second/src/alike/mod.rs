@@ -6,6 +6,7 @@ mod entries;
 mod jobs;
 mod play;
 pub(crate) mod report;
+mod sheets;
 pub(crate) mod side;
 mod uses;
 
@@ -27,6 +28,7 @@ pub fn alike(ulz: &Path, second: &Path, jobs: &Jobs, work: &Path) -> Result<Repo
         let played = Play { job, index }.all(&mut report);
         played.map_err(|why| reason(job.sheet.shown.as_ref(), why))?;
     }
+    sheets::play(&work.join("sheets"), &mut report).map_err(|why| format!("sheets alone: {why}"))?;
     entries::play(&work.join("entries"), &mut report).map_err(|why| format!("entries after journals: {why}"))?;
     uses::play(&work.join("uses"), &mut report).map_err(|why| format!("right and wrong use: {why}"))?;
     Ok(report)

@@ -140,7 +140,9 @@ fn asked(call: Call, time: usize) -> Call {
     call.word("--status")
 }
 
-/// What a sheet says in the first place after its contents, or 3.
+/// What a sheet says in the first place after its contents, which byte 0 tells the end of, or 3.
 pub fn steps(sheet: &Path) -> io::Result<String> {
-    Ok(fs::read(sheet)?.get(26).unwrap_or(&3).to_string())
+    let sheet = fs::read(sheet)?;
+    let place = if sheet.first() == Some(&5) { 26 } else { 31 };
+    Ok(sheet.get(place).unwrap_or(&3).to_string())
 }

@@ -1,5 +1,5 @@
-//! Graphs of 64 steps, or fewer, 16 people and 16 roles, with arrows nearly everywhere. They are loaded before the race, and few
-//! enough to stay in the nearest cache: the calls are raced, not the memory.
+//! Graphs of 64 steps, or fewer, as many actions, 16 people and 16 roles, with arrows nearly everywhere. They are loaded before the
+//! race, and few enough to stay in the nearest cache: the calls are raced, not the memory.
 
 use second::cases::{self, Case, Density, Dice};
 use second::data::{Entry, Graph, Marking};
@@ -46,7 +46,7 @@ pub fn greying(steps: usize) -> Vec<Case> {
     let case = |index| {
         let mut dice = Dice::new(64, index);
         let [few, half, most] = [Density::Thin, Density::Half, Density::Dense];
-        let graph = cases::sized(&mut dice, [steps, 16, 16], [few, few, half, most, most, most]);
+        let graph = shared(&mut dice, steps, [few, few, half, most, most, most]);
         let (all, open) = (u64::MAX >> (64 - steps), 1 << dice.below(steps));
         let marking = Marking::new(all & !open, dice.word() & all, dice.set(most) & all | open);
         let someone = peer::allowed_to_someone(&graph, marking).steps;
@@ -61,7 +61,15 @@ pub fn greying(steps: usize) -> Vec<Case> {
 }
 
 fn dense(dice: &mut Dice, steps: usize) -> Graph {
-    cases::sized(dice, [steps, 16, 16], [Density::Dense; 6])
+    shared(dice, steps, [Density::Dense; 6])
+}
+
+/// Each step has any action: some share one, some actions are nobody's, and the roles of a step are not beside those of the one
+/// before it.
+fn shared(dice: &mut Dice, steps: usize, densities: [Density; 6]) -> Graph {
+    let mut graph = cases::sized(dice, [steps, 16, 16, steps], densities);
+    graph.labels[..steps].fill_with(|| dice.below(steps) as u64);
+    graph
 }
 
 /// A full graph with a journal of so many entries that runs through from the marking.

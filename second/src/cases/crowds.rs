@@ -2,7 +2,7 @@
 
 use super::{
     entries::{fitting, known},
-    graphs::{first, sized},
+    graphs::{self, first, sized, MOST},
     walks::push,
     Dice,
 };
@@ -71,16 +71,16 @@ pub fn gather(dice: &mut Dice, g: &mut Graph, m: &mut Marking, entry: Entry) {
 fn graph(dice: &mut Dice) -> Graph {
     let any = dice.between(1, 65);
     let steps = dice.pick(&[64, 64, 64, 63, any]);
-    let [people, roles] = [(); 2].map(|()| dice.between(1, 17));
+    let [_, people, roles, actions] = graphs::sizes(dice, MOST);
     let densities = [(); 6].map(|()| dice.density());
-    sized(dice, [steps, people, roles], densities)
+    sized(dice, [steps, people, roles, actions], densities)
 }
 
-/// Lets somebody take some step.
+/// Lets somebody take some step, and with it all that have the same action.
 fn taken(dice: &mut Dice, g: &mut Graph) -> Entry {
     let entry = known(dice, g);
     g.holds[usize::from(entry.person)] |= 1 << entry.role;
-    g.allows[usize::from(entry.step)] |= 1 << entry.role;
+    g.allows[g.labels[usize::from(entry.step)] as usize] |= 1 << entry.role;
     entry
 }
 

@@ -1,4 +1,4 @@
-use super::{crowds, Dice};
+use super::{crowds, graphs::roles_of_steps, Dice};
 use crate::data::{Entry, Graph, Marking};
 
 /// An entry, with the marking bent where needed, so that each answer comes up often whatever the graph is like. For a
@@ -24,12 +24,13 @@ pub fn aimed(dice: &mut Dice, g: &mut Graph, m: &mut Marking) -> Entry {
 pub fn fitting(dice: &mut Dice, g: &Graph) -> Entry {
     let union = |rows: &[u64]| rows.iter().fold(0, |union, row| union | row);
     let Entry { person, step, role } = known(dice, g);
-    let role = dice.member(union(&g.holds) & union(&g.allows)).unwrap_or(role);
+    let roles = roles_of_steps(g);
+    let role = dice.member(union(&g.holds) & union(&roles)).unwrap_or(role);
     let with_role =
         |rows: &[u64]| (0..rows.len()).filter(|&i| rows[i] >> (role % 64) & 1 == 1).fold(0, |set, i| set | 1 << i);
     Entry {
         person: dice.member(with_role(&g.holds)).unwrap_or(person),
-        step: dice.member(with_role(&g.allows)).unwrap_or(step),
+        step: dice.member(with_role(&roles)).unwrap_or(step),
         role,
     }
 }

@@ -3,8 +3,9 @@
 use super::{
     crowds::{self, Crowd},
     entries::fitting,
-    graphs, journals, markings, records,
-    sheets::{damaged, whole, written},
+    graphs::{self, MOST},
+    journals, markings, records,
+    sheets::{damaged, in_a_form, whole, written, written_in_five},
     walks::{push, refused, walk},
     Density, Dice,
 };
@@ -22,17 +23,19 @@ pub struct Job {
 }
 
 /// The first is the sample job with a record that applies everywhere, the second has all 12,288 arrows, the third a journal of
-/// full length; the others are of any kind, one in six with a step that most often waits for many, and a quarter of them has a
-/// damaged sheet.
+/// full length, and the fourth all arrows in a sheet of five bodies; the others are of any kind, one in six with a step that most
+/// often waits for many, and a quarter of them has a damaged sheet.
 pub fn make(dice: &mut Dice, index: u64) -> Job {
     match index {
         0 => {
             let job = of_graph(dice, &sample::graph(), sample::START, 0);
-            Job { marking: sample::START.bytes(), record: vec![0; 65], ..job }
+            let sheet = written(&sample::graph(), sample::START);
+            Job { sheet, marking: sample::START.bytes(), record: vec![0; 65], ..job }
         }
-        1 => {
+        1 | 3 => {
             let (graph, marking) = dense(dice);
-            of_graph(dice, &graph, marking, 0)
+            let form = if index == 1 { written } else { written_in_five };
+            Job { sheet: form(&graph, marking), ..of_graph(dice, &graph, marking, 0) }
         }
         2 => long(dice),
         _ => {
@@ -56,13 +59,13 @@ fn any(dice: &mut Dice) -> (Graph, Marking) {
     }
 }
 
-/// As many steps, people, roles and arrows as there can be.
+/// As many steps, people, roles, actions and arrows as there can be.
 fn dense(dice: &mut Dice) -> (Graph, Marking) {
-    livened(dice, |dice| graphs::sized(dice, [64, 16, 16], [Density::Full; 6]))
+    livened(dice, |dice| graphs::sized(dice, MOST, [Density::Full; 6]))
 }
 
 fn sparse(dice: &mut Dice) -> (Graph, Marking) {
-    let sizes = [64, 16, 16].map(|most| dice.between(1, most + 1));
+    let sizes = graphs::sizes(dice, MOST);
     livened(dice, |dice| graphs::sized(dice, sizes, [Density::Sparse; 6]))
 }
 
@@ -105,8 +108,9 @@ fn of_graph(dice: &mut Dice, g: &Graph, start: Marking, faults: usize) -> Job {
         markings::name_beyond(dice, g.steps, &mut marking);
     }
     let record = records::record(dice, g.steps);
+    let sheet = in_a_form(dice, g, start);
     Job {
-        sheet: damaged(dice, written(g, start), faults),
+        sheet: damaged(dice, sheet, faults),
         journals,
         marking: marking.bytes(),
         record: records::bytes(dice, g.steps, record),

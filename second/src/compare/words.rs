@@ -48,7 +48,7 @@ pub const SHARES: &[Kind] = &[(0, "no step"), (256, "some steps"), (512, "every 
 pub const FLAGS: &[Kind] = &[(0, "flag down"), (256, "flag up")];
 
 pub const COUNTS: Kind = (2, "counts out of range");
-pub const BEYOND: Kind = (4, "a set beyond the counts");
+pub const BEYOND: Kind = (4, "something beyond the counts");
 pub const BOTH: Kind = (6, "a pair includes and excludes");
 pub const LENGTH: Kind = (7, "bad length of a journal");
 pub const OUTSIDE: Kind = (8, "marking beyond the graph");
@@ -62,7 +62,7 @@ pub const GRAPH: &[Kind] = &[COUNTS, BEYOND, BOTH];
 
 pub const UNKNOWN: Kind = (11, "unknown person, step or role");
 const NOT_HELD: Kind = (12, "person does not hold the role");
-const NOT_ON_STEP: Kind = (13, "step does not have the role");
+const NOT_ON_STEP: Kind = (13, "action does not have the role");
 const EXCLUDED: Kind = (14, "step not included");
 pub const WAITS_FOR_ONE: Kind = (ONE + 15, "step waits for one");
 pub const WAITS_FOR_SOME: Kind = (SOME + 15, "step waits for 2 to 62");

@@ -16,7 +16,7 @@ pub fn ask_entry(g: &Graph, m: &Marking, entry: Entry) -> Asked {
     let numbers = [
         (11, person >= g.people || step >= g.steps || role >= g.roles),
         (12, !g.holds.contains(&(person, role))),
-        (13, !g.allows.contains(&(step, role))),
+        (13, !g.has_role(step, role)),
         (14, !m.included.contains(&step)),
     ];
     match lowest(&numbers) {

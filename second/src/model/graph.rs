@@ -1,5 +1,5 @@
 use crate::data;
-use std::collections::BTreeSet;
+use std::collections::{BTreeMap, BTreeSet};
 
 /// Numbered things.
 pub type Set = BTreeSet<u64>;
@@ -12,15 +12,18 @@ pub struct Graph {
     pub steps: u64,
     pub people: u64,
     pub roles: u64,
+    pub actions: u64,
     /// These four hold arrows (from, to).
     pub conditions: Pairs,
     pub responses: Pairs,
     pub includes: Pairs,
     pub excludes: Pairs,
-    /// (step, role): the step has the role.
+    /// (action, role): the action has the role.
     pub allows: Pairs,
     /// (person, role): the person holds the role.
     pub holds: Pairs,
+    /// The paper's labelling: the action of each step.
+    pub labels: BTreeMap<u64, u64>,
 }
 
 impl Graph {
@@ -29,12 +32,14 @@ impl Graph {
             steps: g.steps,
             people: g.people,
             roles: g.roles,
+            actions: g.actions,
             conditions: turned(&pairs(&g.conditions)),
             responses: pairs(&g.responses),
             includes: pairs(&g.includes),
             excludes: pairs(&g.excludes),
             allows: pairs(&g.allows),
             holds: pairs(&g.holds),
+            labels: (0..).zip(g.labels).collect(),
         }
     }
 
@@ -43,13 +48,20 @@ impl Graph {
             steps: self.steps,
             people: self.people,
             roles: self.roles,
+            actions: self.actions,
             conditions: rows(&turned(&self.conditions)),
             responses: rows(&self.responses),
             includes: rows(&self.includes),
             excludes: rows(&self.excludes),
             allows: rows(&self.allows),
             holds: rows(&self.holds),
+            labels: std::array::from_fn(|step| self.labels.get(&(step as u64)).copied().unwrap_or(0)),
         }
+    }
+
+    /// A step has the roles of its action.
+    pub fn has_role(&self, step: u64, role: u64) -> bool {
+        self.labels.get(&step).is_some_and(|action| self.allows.contains(&(*action, role)))
     }
 }
 

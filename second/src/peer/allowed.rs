@@ -1,4 +1,4 @@
-use super::{check::sound, Refusal};
+use super::{ask::row_of, check::sound, Refusal};
 use crate::data::{Allowed, Graph, Marking};
 
 pub fn allowed_to(g: &Graph, m: Marking, person: u64) -> Allowed {
@@ -36,12 +36,12 @@ fn to_someone(g: &Graph, m: Marking) -> Result<u64, Refusal> {
 #[inline]
 fn in_roles(g: &Graph, m: Marking, roles: u64) -> u64 {
     let (rows, open) = (g.steps as usize, m.included & !m.done);
-    let (mut steps, mut this) = (0, 1u64);
-    for (conditions, allows) in g.conditions[..rows].iter().zip(&g.allows[..rows]) {
-        // Both are asked of each row, without a branch: one that is guessed wrong costs more than a row.
-        let allowed = (conditions & open == 0) & (allows & roles != 0);
-        steps |= if allowed { this } else { 0 };
-        this <<= 1;
+    let mut steps = 0;
+    // From the last row on, so that each is a bit behind those above it. Both are asked of it, without a branch: one that is guessed
+    // wrong costs more than a row.
+    for (conditions, label) in g.conditions[..rows].iter().zip(&g.labels[..rows]).rev() {
+        let allowed = (conditions & open == 0) & (g.allows[row_of(*label)] & roles != 0);
+        steps = steps << 1 | u64::from(allowed);
     }
     steps & m.included
 }

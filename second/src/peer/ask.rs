@@ -25,7 +25,7 @@ pub fn ask_entry(g: &Graph, m: Marking, e: Entry) -> Result<(), Refusal> {
     if g.holds[person] & role == 0 {
         return Err(Refusal::NotHeld);
     }
-    if g.allows[step] & role == 0 {
+    if roles_of(g, step) & role == 0 {
         return Err(Refusal::NotOnStep);
     }
     if m.included & 1 << e.step == 0 {
@@ -36,6 +36,18 @@ pub fn ask_entry(g: &Graph, m: Marking, e: Entry) -> Result<(), Refusal> {
         return Err(Refusal::Waits(waiting));
     }
     Ok(())
+}
+
+/// The roles in which the step can be taken.
+#[inline(always)]
+pub fn roles_of(g: &Graph, step: usize) -> u64 {
+    g.allows[row_of(g.labels[step])]
+}
+
+/// The row of an action. It is below 64 where the graph has been checked, and this tells the compiler.
+#[inline(always)]
+pub fn row_of(label: u64) -> usize {
+    label as usize % 64
 }
 
 /// Person, step and role are below their counts, each of which fits into a byte where the graph has been checked.

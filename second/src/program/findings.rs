@@ -108,7 +108,8 @@ fn not_allowed(g: &Graph, m: &Marking, AnyEntry { person, step, role }: AnyEntry
         )
     };
     among(&format!("person {person}"), targets(&g.holds, person))?;
-    among(&format!("step {step}"), targets(&g.allows, step))?;
+    let action = g.labels[&step];
+    among(&format!("step {step}, action {action}"), targets(&g.allows, action))?;
     see(m.included.contains(&step), format_args!("step {step}, excluded"), "included")?;
     let open = waiting(g, m, step);
     let found = format!("steps {}, included and not done", set(&open));

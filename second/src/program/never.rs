@@ -17,8 +17,8 @@ fn why(g: &Graph, entries: &[Entry], at: usize) -> Option<String> {
     if !g.holds.contains(&(person, role)) {
         return Some("the person does not hold this role".into());
     }
-    if !g.allows.contains(&(step, role)) {
-        return Some("the step does not have this role".into());
+    if !g.has_role(step, role) {
+        return Some("the step's action does not have this role".into());
     }
     let changed = |arrows: &std::collections::BTreeSet<(u64, u64)>| {
         entries[..at].iter().rposition(|entry| arrows.contains(&(entry.step.into(), step)))

@@ -23,7 +23,7 @@ pub fn check(given: &Given) -> Reply {
 pub fn show(given: &Given) -> Reply {
     let [sheet] = given.files();
     let (g, m) = read(sheet)?;
-    let lines = people(counts(Lines::default(), &g), &g);
+    let lines = actions(people(counts(Lines::default(), &g), &g), &g);
     let lines = arrow_by_arrow(steps(lines, &g, &m), &g);
     Ok(Answer::new(lines.say("arrows", arrows(&g)).ending(&m)))
 }
@@ -36,7 +36,7 @@ pub fn write(given: &Given) -> Reply {
 }
 
 fn counts(lines: Lines, g: &Graph) -> Lines {
-    lines.say("steps", g.steps).say("people", g.people).say("roles", g.roles)
+    lines.say("steps", g.steps).say("people", g.people).say("roles", g.roles).say("actions", g.actions)
 }
 
 fn arrows(g: &Graph) -> usize {
@@ -50,13 +50,21 @@ fn people(lines: Lines, g: &Graph) -> Lines {
     })
 }
 
+fn actions(lines: Lines, g: &Graph) -> Lines {
+    (0..g.actions).fold(lines, |lines, action| {
+        let roles = set(&targets(&g.allows, action));
+        lines.say(format_args!("action {action}"), format_args!("roles {roles}"))
+    })
+}
+
 fn steps(lines: Lines, g: &Graph, m: &Marking) -> Lines {
     (0..g.steps).fold(lines, |lines, step| {
-        let roles = set(&targets(&g.allows, step));
+        let action = g.labels[&step];
+        let roles = set(&targets(&g.allows, action));
         let included = if m.included.contains(&step) { "included" } else { "excluded" };
         let done = if m.done.contains(&step) { ", done" } else { "" };
         let due = if m.due.contains(&step) { ", due" } else { "" };
-        lines.say(format_args!("step {step}"), format_args!("roles {roles}, {included}{done}{due}"))
+        lines.say(format_args!("step {step}"), format_args!("action {action}, roles {roles}, {included}{done}{due}"))
     })
 }
 

@@ -58,8 +58,9 @@ fn what_is_refused_leaves_the_journal() {
     refused("job.sheet reboot 0 0 258", unknown, "role 258", "roles 0 to 1", entry, REBOOTED);
     let (number, entry) = ("refused: 12 the person does not hold this role", "entry 1: person 1, step 1, role 0");
     refused("job.sheet reboot 1 1 0", number, "person 1, roles 1", "role 0 among them", entry, REBOOTED);
-    let (number, entry) = ("refused: 13 the step does not have this role", "entry 1: person 1, step 1, role 1");
-    refused("job.sheet reboot 01 1 001", number, "step 1, roles 0", "role 1 among them", entry, REBOOTED);
+    let (number, entry) =
+        ("refused: 13 the step's action does not have this role", "entry 1: person 1, step 1, role 1");
+    refused("job.sheet reboot 01 1 001", number, "step 1, action 1, roles 0", "role 1 among them", entry, REBOOTED);
     let (number, entry) = ("refused: 14 the step is not included", "entry 1: person 1, step 2, role 1");
     refused("job.sheet reboot 1 2 1", number, "step 2, excluded", "included", entry, REBOOTED);
     let waits = [
@@ -162,7 +163,7 @@ fn why_nobody_may() {
     folder.put("empty", &[]);
     let mut g = sample::graph();
     // Step 0 has no role that anyone holds and is excluded; 1 is excluded; 2 waits; and so does 3, which is excluded too.
-    (g.steps, g.roles) = (4, 3);
+    (g.steps, g.roles, g.actions, g.labels[3]) = (4, 3, 4, 3);
     g.allows[..4].copy_from_slice(&[0b100, 0b001, 0b010, 0b010]);
     (g.conditions[2], g.conditions[3]) = (0b100, 0b100);
     folder.put("any.sheet", &sheets::written(&g, Marking::new(0, 0, 0b100)));

@@ -1,5 +1,6 @@
 //! What both bodies must do: the samples S1 to S13, the slips that were made before, and the same answers as each other.
 
+mod actions;
 mod alike;
 mod allowed;
 mod asking;

@@ -1,6 +1,6 @@
 use super::written;
 use crate::cases::{jobs, sheets, Dice};
-use crate::data::Entry;
+use crate::data::{Entry, Graph, Marking};
 use crate::model;
 use crate::program::{because, call, Told};
 use crate::sample::{self, CHECK, PUBLISH, REBOOT, START};
@@ -106,10 +106,10 @@ fn every_step_that_is_waited_for_is_named() {
 #[test]
 fn files_and_wrong_use() {
     let folder = Folder::new("files");
-    folder.told("write job.sheet again.sheet", 0, &["wrote: 75 bytes"]);
+    folder.told("write job.sheet again.sheet", 0, &["wrote: 84 bytes"]);
     assert_eq!(fs::read(folder.0.join("again.sheet")).ok(), fs::read(folder.0.join("job.sheet")).ok());
     folder.told("write job.sheet again.sheet", 2, &[]);
-    folder.told("write job.sheet again.sheet --force", 0, &["wrote: 75 bytes"]);
+    folder.told("write job.sheet again.sheet --force", 0, &["wrote: 84 bytes"]);
     for words in ["check", "check job.sheet reboot", "check not-there", "check job.sheet --force", "nothing", "run - -"]
     {
         folder.told(words, 2, &[]);
@@ -188,12 +188,14 @@ fn never_has_a_reason() {
 #[test]
 fn a_refusal_names_its_file() {
     let folder = Folder::new("named");
-    folder.put("short", &[0; 3]);
-    folder.told(
-        "check short",
-        1,
-        &["refused: 1 not laid out as a sheet", "file: short", "found: 3 bytes", "expected: 57 to 37077"],
-    );
+    let laid_out = |bytes: &[u8], found: &str, expected: &str| {
+        folder.put("short", bytes);
+        folder.told("check short", 1, &["refused: 1 not laid out as a sheet", "file: short", found, expected]);
+    };
+    laid_out(&[], "found: 0 bytes", "expected: 64 to 37147");
+    laid_out(&[0; 3], "found: byte 0 is 0", "expected: 6 or 5, the number of bodies");
+    laid_out(&[6; 3], "found: 3 bytes", "expected: 64 to 37147");
+    laid_out(&[5; 3], "found: 3 bytes", "expected: 57 to 37077");
     folder.put("torn", &[0; 4]);
     let length = "refused: 7 the bytes of the journal are no multiple of 3, or too many";
     folder.told(
@@ -201,6 +203,78 @@ fn a_refusal_names_its_file() {
         1,
         &[length, "file: torn", "found: 4 bytes", "expected: a multiple of 3, at most 65535"],
     );
+}
+
+/// In five bodies as in six, of which only the latter are written.
+#[test]
+fn a_sheet_of_either_form() {
+    let folder = Folder::new("forms");
+    folder.put("five.sheet", &sheets::written_in_five(&sample::graph(), START));
+    let counts = ["steps: 3", "people: 2", "roles: 2", "actions: 3"];
+    let shown = [
+        "person 0: roles 0",
+        "person 1: roles 1",
+        "action 0: roles 0 1",
+        "action 1: roles 0",
+        "action 2: roles 1",
+        "step 0: action 0, roles 0 1, included",
+        "step 1: action 1, roles 0, included",
+        "step 2: action 2, roles 1, included",
+        "condition 1 2: if step 1 is included, it must have been done before step 2",
+        "response 0 1: doing step 0 makes step 1 due",
+        "include 1 2: doing step 1 includes step 2",
+        "exclude 0 2: doing step 0 excludes step 2",
+        "arrows: 4",
+    ];
+    for sheet in ["job.sheet", "five.sheet"] {
+        folder.told(&format!("check {sheet}"), 0, &[&["sheet: ok"], &counts[..], &["arrows: 4"]].concat());
+        folder.told(&format!("show {sheet}"), 0, &[&counts[..], &shown, &["finished: yes"]].concat());
+        folder.told(&format!("write {sheet} again.sheet --force"), 0, &["wrote: 84 bytes"]);
+        assert_eq!(fs::read(folder.0.join("again.sheet")).ok(), fs::read(folder.0.join("job.sheet")).ok());
+    }
+}
+
+#[test]
+fn steps_that_share_an_action() {
+    let folder = Folder::new("shared");
+    let mut g = Graph { actions: 2, ..Graph::bare(3, 1, 2) };
+    (g.holds[0], g.labels) = (0b10, [0; 64]);
+    (g.allows[0], g.allows[1], g.labels[1]) = (0, 0b11, 1);
+    (g.labels[2], g.conditions[2]) = (1, 0b001);
+    folder.put("any.sheet", &sheets::written(&g, Marking::new(0b001, 0b010, 0b011)));
+    let shown = [
+        "steps: 3",
+        "people: 1",
+        "roles: 2",
+        "actions: 2",
+        "person 0: roles 1",
+        "action 0: roles none",
+        "action 1: roles 0 1",
+        "step 0: action 0, roles none, included, done",
+        "step 1: action 1, roles 0 1, included, due",
+        "step 2: action 1, roles 0 1, excluded",
+        "condition 0 2: if step 0 is included, it must have been done before step 2",
+        "arrows: 1",
+        "finished: no",
+        "to do: 1",
+    ];
+    folder.told("show any.sheet", 0, &shown);
+    folder.put("none", &[0, 0, 1]);
+    let at = ["done: 0", "due: 1", "included: 0 1"];
+    let refused = [
+        "refused: 13 the step's action does not have this role",
+        "file: none",
+        "found: step 0, action 0, roles none",
+        "expected: role 1 among them",
+        "entry 0: person 0, step 0, role 1",
+    ];
+    folder.told("run any.sheet none", 1, &[&refused[..], &at].concat());
+    let because = "because: entry 0: person 0, step 0, role 1, the step's action does not have this role";
+    folder.told("fold any.sheet none record", 2, &["never: yes", because]);
+    let blocked = ["blocked: step 0, nobody holds a role that it has", "may: step 1, person 0, role 1"];
+    let rest = ["blocked: step 2, not included", "finished: no", "to do: 1"];
+    folder.put("empty", &[]);
+    folder.told("may any.sheet empty", 0, &[&["entries: 0"], &at[..], &blocked, &rest].concat());
 }
 
 /// `may` names exactly the entries that a move would let pass.

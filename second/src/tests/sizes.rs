@@ -11,9 +11,9 @@ const ROUND: [u64; 3] = [3 + (1 << 8), 3 + (1 << 16), 3 + (1 << 32)];
 #[test]
 fn counts() {
     for count in ROUND.into_iter().chain([0, 255, 256, u64::MAX]) {
-        for place in 0..3 {
+        for place in 0..4 {
             let mut g = sample::graph();
-            *[&mut g.steps, &mut g.people, &mut g.roles][place] = count;
+            *[&mut g.steps, &mut g.people, &mut g.roles, &mut g.actions][place] = count;
             let job = Both::new(g);
             assert_eq!(job.check(), 2, "{count}");
             assert_eq!(job.restore(&[0; 65], &[], START).number, 2, "{count}");

@@ -8,7 +8,7 @@ pub fn run(g: &Graph, Marking { mut done, mut due, mut included }: Marking, jour
     for &[person, step, role] in entries {
         let at = usize::from(step % 64);
         waiting |= g.conditions[at] & included & !done;
-        roles &= (g.holds[usize::from(person % 16)] & g.allows[at]) >> (role % 16);
+        roles &= (g.holds[usize::from(person % 16)] & g.allows[g.labels[at] as usize % 64]) >> (role % 16);
         let this = 1 << at;
         done |= this;
         due = (due & !this) | g.responses[at];

@@ -33,6 +33,8 @@ const GRAPH: Graph = Graph {
     excludes: [WORD; 64],
     allows: [WORD; 64],
     holds: [WORD; 16],
+    labels: [WORD; 64],
+    actions: 204,
     ..Graph::bare(201, 202, 203)
 };
 

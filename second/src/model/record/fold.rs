@@ -23,7 +23,7 @@ pub fn fold(g: &Graph, journal: &[u8]) -> Result<[u8; 65], u64> {
 fn of_entry(g: &Graph, entry: Entry) -> Record {
     let [person, e, role] = [entry.person, entry.step, entry.role].map(u64::from);
     let known = person < g.people && e < g.steps && role < g.roles;
-    let possible = known && g.holds.contains(&(person, role)) && g.allows.contains(&(e, role));
+    let possible = known && g.holds.contains(&(person, role)) && g.has_role(e, role);
     let cell = |s| if possible { of_step(g, e, s) } else { Cell::never() };
     Record { cells: (0..g.steps).map(cell).collect() }
 }

@@ -6,7 +6,7 @@ use crate::model::{
     targets, Graph, Marking,
 };
 
-/// The sheet that goes into a room of so many bytes. Refusals 2, 4 (graph or marking), 6, 18.
+/// The sheet, in six bodies, that goes into a room of so many bytes. Refusals 2, 4 (graph or marking), 6, 18.
 pub fn write(g: &Graph, m: data::Marking, room: usize) -> Result<Vec<u8>, u64> {
     match refused(g, &[(4, Marking::read(m).names_beyond(g.steps))]) {
         0 => Some(sheet(g, m)).filter(|sheet| sheet.len() <= room).ok_or(18),
@@ -16,13 +16,14 @@ pub fn write(g: &Graph, m: data::Marking, room: usize) -> Result<Vec<u8>, u64> {
 
 fn sheet(g: &Graph, m: data::Marking) -> Vec<u8> {
     let bodies = [
-        [g.steps, g.people, g.roles].map(|count| count as u8).to_vec(),
+        [g.steps, g.people, g.roles, g.actions].map(|count| count as u8).to_vec(),
         m.bytes(),
-        role_sets(&g.allows, g.steps),
+        role_sets(&g.allows, g.actions),
         role_sets(&g.holds, g.people),
         arrows(g),
+        (0..g.steps).map(|step| g.labels[&step] as u8).collect(),
     ];
-    let (mut sheet, mut offset) = (vec![5], 26);
+    let (mut sheet, mut offset) = (vec![6], 31);
     for (kind, body) in (1..).zip(&bodies) {
         sheet.push(kind);
         sheet.extend([offset % 256, offset / 256, body.len() % 256, body.len() / 256].map(|byte| byte as u8));

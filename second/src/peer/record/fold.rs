@@ -1,7 +1,7 @@
 use super::{bytes::put, tidy, IDENTITY, NEVER};
 use crate::data::{Entry, Graph, Record};
 use crate::peer::{
-    ask::known,
+    ask::{known, roles_of},
     check::well_formed,
     journal::{entries, entry},
     number, Refusal,
@@ -33,7 +33,7 @@ fn longer(record: &Record, g: &Graph, e: Entry) -> Option<Record> {
         return None;
     }
     let step = usize::from(e.step);
-    if g.holds[usize::from(e.person)] & g.allows[step] & (1 << e.role) == 0 {
+    if g.holds[usize::from(e.person)] & roles_of(g, step) & (1 << e.role) == 0 {
         return None;
     }
     let this = 1u64 << e.step;

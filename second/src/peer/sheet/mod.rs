@@ -6,8 +6,7 @@ mod write;
 pub use read::read;
 pub use write::write;
 
-/// Where the bodies begin.
-const BODIES: usize = 26;
-
-/// The longest sheet.
-const LONGEST: usize = 37_077;
+/// Where the bodies begin, by how many there are.
+const fn start(bodies: usize) -> usize {
+    1 + 5 * bodies
+}

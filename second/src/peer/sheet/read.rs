@@ -1,4 +1,4 @@
-use super::{BODIES, LONGEST};
+use super::start;
 use crate::data::{Graph, Marking};
 use crate::peer::{
     check::{check_counts, first, inside},
@@ -10,22 +10,39 @@ pub fn read(sheet: &[u8], graph: &mut Graph, marking: &mut Marking) -> u64 {
     number(place(sheet, graph, marking))
 }
 
+/// What is read of either form.
+struct Bodies<'a> {
+    counts: [u8; 4],
+    sets: &'a [u8],
+    action_roles: &'a [u8],
+    person_roles: &'a [u8],
+    arrows: &'a [u8],
+    labels: &'a [u8],
+}
+
 fn place(sheet: &[u8], graph: &mut Graph, marking: &mut Marking) -> Result<(), Refusal> {
-    let [counts, sets, step_roles, person_roles, arrows] = bodies(sheet).ok_or(Refusal::Layout)?;
-    let &[steps, people, roles] = counts else { return Err(Refusal::Layout) };
+    let Bodies { counts, sets, action_roles, person_roles, arrows, labels } = match sheet {
+        [6, ..] => of_six(sheet),
+        [5, ..] => of_five(sheet),
+        _ => None,
+    }
+    .ok_or(Refusal::Layout)?;
     let &[done, due, included] = sets.as_chunks().0 else { return Err(Refusal::Layout) };
-    let mut g = Graph::bare(steps.into(), people.into(), roles.into());
-    check_counts(g.steps, g.people, g.roles)?;
-    if step_roles.len() != 2 * usize::from(steps) || person_roles.len() != 2 * usize::from(people) {
+    let [steps, people, roles, actions] = counts.map(u64::from);
+    check_counts(steps, people, roles, actions)?;
+    let twice = |count: u64| 2 * count as usize;
+    if action_roles.len() != twice(actions) || person_roles.len() != twice(people) || labels.len() != steps as usize {
         return Err(Refusal::Bodies);
     }
     let [done, due, included] = [done, due, included].map(u64::from_le_bytes);
     let m = Marking { done, due, included };
-    let union = read_roles(step_roles, &mut g.allows) | read_roles(person_roles, &mut g.holds);
-    if inside(g.steps, m).is_err() || union & !first(g.roles) != 0 {
+    let mut g = Graph { actions, labels: [0; 64], ..Graph::bare(steps, people, roles) };
+    let union = read_roles(action_roles, &mut g.allows) | read_roles(person_roles, &mut g.holds);
+    let last = read_labels(labels, &mut g.labels);
+    if inside(steps, m).is_err() || union & !first(roles) != 0 || last >= counts[3] {
         return Err(Refusal::Beyond);
     }
-    read_arrows(arrows, steps, &mut g)?;
+    read_arrows(arrows, counts[0], &mut g)?;
     if g.includes.iter().zip(&g.excludes).any(|(includes, excludes)| includes & excludes != 0) {
         return Err(Refusal::Both);
     }
@@ -33,14 +50,39 @@ fn place(sheet: &[u8], graph: &mut Graph, marking: &mut Marking) -> Result<(), R
     Ok(())
 }
 
-/// The five bodies, if byte 0, the contents and the lengths that do not depend on the counts are right.
-fn bodies(sheet: &[u8]) -> Option<[&[u8]; 5]> {
-    if !(BODIES + 3..=LONGEST).contains(&sheet.len()) || sheet[0] != 5 {
+fn of_six(sheet: &[u8]) -> Option<Bodies<'_>> {
+    let [counts, sets, action_roles, person_roles, arrows, labels] = bodies(sheet, 37_147)?;
+    let &counts = counts.as_array()?;
+    Some(Bodies { counts, sets, action_roles, person_roles, arrows, labels })
+}
+
+/// Each step is an action of its own.
+fn of_five(sheet: &[u8]) -> Option<Bodies<'_>> {
+    const OWN: [u8; 256] = ascending();
+    let [counts, sets, action_roles, person_roles, arrows] = bodies(sheet, 37_077)?;
+    let &[steps, people, roles] = counts else { return None };
+    let labels = &OWN[..usize::from(steps)];
+    Some(Bodies { counts: [steps, people, roles, steps], sets, action_roles, person_roles, arrows, labels })
+}
+
+const fn ascending() -> [u8; 256] {
+    let mut bytes = [0; 256];
+    let mut i = 0;
+    while i < 256 {
+        bytes[i] = i as u8;
+        i += 1;
+    }
+    bytes
+}
+
+/// The bodies, if the contents and the lengths that do not depend on form or counts are right.
+fn bodies<const COUNT: usize>(sheet: &[u8], longest: usize) -> Option<[&[u8]; COUNT]> {
+    let mut at = start(COUNT);
+    if !(at..=longest).contains(&sheet.len()) {
         return None;
     }
-    let mut bodies = [&[][..]; 5];
-    let mut at = BODIES;
-    for (i, line) in sheet[1..BODIES].as_chunks().0.iter().enumerate() {
+    let mut bodies = [&[][..]; COUNT];
+    for (i, line) in sheet[1..at].as_chunks().0.iter().enumerate() {
         let &[kind, o0, o1, l0, l1] = line;
         let (offset, length) = (u16::from_le_bytes([o0, o1]), u16::from_le_bytes([l0, l1]));
         if usize::from(kind) != i + 1 || usize::from(offset) != at {
@@ -49,8 +91,7 @@ fn bodies(sheet: &[u8]) -> Option<[&[u8]; 5]> {
         at += usize::from(length);
         bodies[i] = sheet.get(usize::from(offset)..at)?;
     }
-    let right = at == sheet.len() && bodies[0].len() == 3 && bodies[1].len() == 24 && bodies[4].len().is_multiple_of(3);
-    right.then_some(bodies)
+    (at == sheet.len() && bodies[1].len() == 24 && bodies[4].len().is_multiple_of(3)).then_some(bodies)
 }
 
 /// Gives the union of the role sets.
@@ -61,6 +102,12 @@ fn read_roles(body: &[u8], sets: &mut [u64]) -> u64 {
         union |= *set;
     }
     union
+}
+
+/// Gives the highest action.
+fn read_labels(body: &[u8], labels: &mut [u64]) -> u8 {
+    labels.iter_mut().zip(body).for_each(|(label, action)| *label = (*action).into());
+    body.iter().fold(0, |last, action| last.max(*action))
 }
 
 fn read_arrows(body: &[u8], steps: u8, g: &mut Graph) -> Result<(), Refusal> {

@@ -1,9 +1,12 @@
-use super::BODIES;
+use super::start;
 use crate::data::{Graph, Marking, Written};
 use crate::peer::{
     check::{inside, well_formed},
     Refusal,
 };
+
+/// How many bodies are written.
+const BODIES: usize = 6;
 
 /// Writes the sheet to the beginning of the room.
 pub fn write(g: &Graph, m: Marking, room: &mut [u8]) -> Written {
@@ -20,21 +23,23 @@ fn placed(g: &Graph, m: Marking, room: &mut [u8]) -> Result<usize, Refusal> {
         return Err(Refusal::Beyond);
     }
     checked?;
-    let (steps, people) = (g.steps as usize, g.people as usize);
-    let lengths = [3, 24, 2 * steps, 2 * people, 3 * count(g)];
-    let length = BODIES + lengths.iter().sum::<usize>();
+    let [steps, people, actions] = [g.steps, g.people, g.actions].map(|count| count as usize);
+    let lengths = [4, 24, 2 * actions, 2 * people, 3 * count(g), steps];
+    let length = start(BODIES) + lengths.iter().sum::<usize>();
     let sheet = room.get_mut(..length).ok_or(Refusal::Room)?;
-    let (contents, bodies) = sheet.split_at_mut(BODIES);
+    let (contents, bodies) = sheet.split_at_mut(start(BODIES));
     write_contents(contents, lengths);
-    let (counts, bodies) = bodies.split_at_mut(3);
-    counts.copy_from_slice(&[g.steps, g.people, g.roles].map(|count| count as u8));
+    let (counts, bodies) = bodies.split_at_mut(4);
+    counts.copy_from_slice(&[g.steps, g.people, g.roles, g.actions].map(|count| count as u8));
     let (marking, bodies) = bodies.split_at_mut(24);
     let sets = [m.done, m.due, m.included];
     marking.as_chunks_mut().0.iter_mut().zip(sets).for_each(|(bytes, set)| *bytes = set.to_le_bytes());
-    let (roles, arrows) = bodies.split_at_mut(2 * (steps + people));
-    let sets = g.allows[..steps].iter().chain(&g.holds[..people]);
+    let (roles, bodies) = bodies.split_at_mut(2 * (actions + people));
+    let sets = g.allows[..actions].iter().chain(&g.holds[..people]);
     roles.as_chunks_mut().0.iter_mut().zip(sets).for_each(|(bytes, set)| *bytes = (*set as u16).to_le_bytes());
+    let (arrows, labels) = bodies.split_at_mut(lengths[4]);
     write_arrows(arrows, g);
+    labels.iter_mut().zip(&g.labels).for_each(|(byte, label)| *byte = *label as u8);
     Ok(length)
 }
 
@@ -44,9 +49,9 @@ fn count(g: &Graph) -> usize {
     tables.iter().flat_map(|rows| rows.iter()).map(|row| row.count_ones() as usize).sum()
 }
 
-fn write_contents(contents: &mut [u8], lengths: [usize; 5]) {
-    contents[0] = 5;
-    let mut offset = BODIES;
+fn write_contents(contents: &mut [u8], lengths: [usize; BODIES]) {
+    contents[0] = BODIES as u8;
+    let mut offset = start(BODIES);
     for (i, line) in contents[1..].as_chunks_mut().0.iter_mut().enumerate() {
         let ([o0, o1], [l0, l1]) = ((offset as u16).to_le_bytes(), (lengths[i] as u16).to_le_bytes());
         *line = [i as u8 + 1, o0, o1, l0, l1];
