@@ -1,6 +1,6 @@
 /*
  * A day of the sample job: 0 reboot, 1 order check, 2 publish. After a reboot nothing is published before the check, also where
- * the journal has been folded into a record and forgotten.
+ * the journal has been folded into a record and forgotten. And a mast on which the order is checked at two places.
  */
 #include <stdio.h>
 #include <stdlib.h>
@@ -40,9 +40,19 @@ static void print_marking(const char *when, ulz_marking marking) {
     printf("\n");
 }
 
+static void print_allowed(const char *when, const ulz_graph *g, ulz_marking marking, uint64_t person) {
+    ulz_allowed allowed = ulz_allowed_to(g, marking, person);
+    expect(ULZ_ANSWERED, allowed.number);
+    printf("%sallowed to person %d", when, (int)person);
+    print_set(":", allowed.steps);
+    printf("\n");
+}
+
 static ulz_graph job(void) {
     ulz_graph g = {0};
-    g.steps = 3, g.people = 2, g.roles = 2;
+    g.steps = 3, g.people = 2, g.roles = 2, g.actions = 3;
+    for (uint64_t step = 0; step < g.steps; step++)
+        g.labels[step] = step; /* every step is an action of its own */
     g.conditions[2] = 1 << 1; /* publish waits for the check */
     g.responses[0] = 1 << 1;  /* a reboot makes the check due */
     g.includes[1] = 1 << 2;   /* the check includes publishing, */
@@ -50,6 +60,25 @@ static ulz_graph job(void) {
     g.allows[0] = 1 | 2, g.allows[1] = 1, g.allows[2] = 2;
     g.holds[0] = 1, g.holds[1] = 2;
     return g;
+}
+
+/* Step 3 checks the order of the other half of the mast. It has the action of step 1, and so its roles, whatever they are. */
+static ulz_graph double_mast(void) {
+    ulz_graph g = job();
+    g.steps = 4;
+    g.labels[3] = g.labels[1];
+    g.conditions[2] |= 1 << 3; /* publish waits for both checks, */
+    g.responses[0] |= 1 << 3;  /* which a reboot makes due */
+    return g;
+}
+
+static void two_checks(void) {
+    ulz_graph g = double_mast();
+    const ulz_marking start = {0, 0, 15};
+    expect(ULZ_ANSWERED, ulz_check(&g));
+    print_allowed("double mast, ", &g, start, 1);
+    g.allows[g.labels[1]] |= 1 << 1;
+    print_allowed("the desk may check, ", &g, start, 1);
 }
 
 int main(void) {
@@ -69,13 +98,8 @@ int main(void) {
     ulz_kept kept = ulz_keep(&g, &marking, publish);
     expect(ULZ_EXCLUDED, kept.number);
     printf("publish: refused with %d, %s\n", (int)kept.number, ulz_text(kept.number));
-    for (uint64_t person = 0; person < g.people; person++) {
-        ulz_allowed allowed = ulz_allowed_to(&g, marking, person);
-        expect(ULZ_ANSWERED, allowed.number);
-        printf("allowed to person %d", (int)person);
-        print_set(":", allowed.steps);
-        printf("\n");
-    }
+    for (uint64_t person = 0; person < g.people; person++)
+        print_allowed("", &g, marking, person);
 
     uint8_t record[ULZ_RECORD_BYTES];
     expect(ULZ_ANSWERED, ulz_fold(&g, rebooted, sizeof rebooted, record));
@@ -104,5 +128,7 @@ int main(void) {
     expect(ULZ_ANSWERED, lapped.number);
     if (lapped.verdict == ULZ_STARVED)
         printf("rebooting for ever: starves step %d\n", (int)lapped.step);
+
+    two_checks();
     return EXIT_SUCCESS;
 }

@@ -1,5 +1,5 @@
 //! A day of the sample job: 0 reboot, 1 order check, 2 publish. After a reboot nothing is published before the check, also where
-//! the journal has been folded into a record and forgotten.
+//! the journal has been folded into a record and forgotten. And a mast on which the order is checked at two places.
 
 use std::collections::BTreeSet;
 use std::error::Error;
@@ -51,6 +51,27 @@ fn job() -> Graph {
     g.allows[..3].copy_from_slice(&[0b11, 0b01, 0b10]);
     g.holds[..2].copy_from_slice(&[0b01, 0b10]);
     g
+}
+
+/// Step 3 checks the order of the other half of the mast. It has the action of step 1, and so its roles, whatever they are.
+fn double_mast() -> Graph {
+    let mut g = job();
+    g.steps = 4;
+    g.labels[3] = g.labels[1];
+    g.conditions[2] |= 1 << 3;
+    g.responses[0] |= 1 << 3;
+    g
+}
+
+fn two_checks() -> Result<(), Refusal> {
+    let (mut g, start) = (double_mast(), Marking::new(0, 0, 0b1111));
+    g.check()?;
+    let allowed = shown(g.allowed_to(start, 1)?);
+    println!("double mast, allowed to person 1: {allowed:?}");
+    g.allows[g.labels[1] as usize] |= 1 << 1;
+    let allowed = shown(g.allowed_to(start, 1)?);
+    println!("the desk may check, allowed to person 1: {allowed:?}");
+    Ok(())
 }
 
 fn main() -> Result<(), Box<dyn Error>> {
@@ -108,5 +129,6 @@ fn main() -> Result<(), Box<dyn Error>> {
     if let Verdict::Starved(step) = g.lap(start, &CHECKED, &REBOOTED)? {
         println!("rebooting for ever: starves step {step}");
     }
+    two_checks()?;
     Ok(())
 }

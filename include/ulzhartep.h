@@ -5,7 +5,7 @@
  * them or excludes them. The library says whether an entry (a person, a step, a role) is allowed at a marking and what becomes of
  * the marking; it runs journals of entries, folds them into records of 65 bytes, and reads and writes jobs as sheets.
  *
- * Steps, people and roles are numbered from 0. A set is a word: number s is in it where bit s is 1, UINT64_C(1) << s.
+ * Steps, people, roles and actions are numbered from 0. A set is a word: number s is in it where bit s is 1, UINT64_C(1) << s.
  *
  *     ulz_graph g = {0};                      in C++: ulz_graph g = {};
  *     ulz_marking m;
@@ -38,16 +38,20 @@
 extern "C" {
 #endif
 
-/* The version of these declarations and of the library. */
+/*
+ * The version of these declarations and of the library. While the first number is 0, a new second number means that memory or
+ * calls have changed, and a program has to be compiled anew; the shared library's soname has both.
+ */
 #define ULZ_VERSION_MAJOR 0
-#define ULZ_VERSION_MINOR 2
+#define ULZ_VERSION_MINOR 3
 #define ULZ_VERSION_PATCH 0
 
-#define ULZ_JOURNAL_BYTES 65535 /* the longest journal: 21,845 entries */
-#define ULZ_RECORD_BYTES 65     /* every record */
-#define ULZ_SHEET_BYTES 37077   /* the longest sheet */
-#define ULZ_SHEET_LEAST 57      /* the shortest sheet that is read: one step, one person, one role, no arrow */
-#define ULZ_STACK_BYTES 4096    /* no call takes more of a thread's stack, whatever it is given */
+#define ULZ_JOURNAL_BYTES 65535    /* the longest journal: 21,845 entries */
+#define ULZ_RECORD_BYTES 65        /* every record */
+#define ULZ_SHEET_BYTES 37147      /* the longest sheet, of six bodies: 64 steps, 16 people, 64 actions, 12,288 arrows */
+#define ULZ_SHEET_LEAST 57         /* the shortest sheet that is read, of five bodies: one step, person and role, no arrow */
+#define ULZ_SHEET_WRITTEN_LEAST 64 /* the shortest sheet that is written, of six bodies: one action besides */
+#define ULZ_STACK_BYTES 4096       /* no call takes more of a thread's stack, whatever it is given */
 
 /*
  * The numbers. Each call names those that it can give. It gives the lowest that holds; for a journal that is the lowest of the
@@ -57,10 +61,11 @@ extern "C" {
 enum {
     ULZ_ANSWERED = 0,     /* nothing is against it */
     ULZ_LAYOUT = 1,       /* not laid out as a sheet: see "Sheets" */
-    ULZ_COUNTS = 2,       /* steps or n outside 1 to 64, people or roles outside 1 to 16 */
-    ULZ_BODIES = 3,       /* the sheet has not 2 bytes for each step, or not 2 bytes for each person */
-    ULZ_BEYOND = 4,       /* a step or role at or beyond its count: in a set of the graph, or in the marking of a sheet that is
-                             read or written; or a row at or beyond its count that is not 0 */
+    ULZ_COUNTS = 2,       /* steps, actions or n outside 1 to 64, people or roles outside 1 to 16 */
+    ULZ_BODIES = 3,       /* the bytes of a sheet's role sets, or of its steps' actions, are not what its counts ask for */
+    ULZ_BEYOND = 4,       /* a step or role at or beyond its count, in a set of the graph or in the marking of a sheet that is
+                             read or written; or a step whose action is at or beyond the count of actions; or a row at or
+                             beyond its count that is not 0 */
     ULZ_ARROWS = 5,       /* an arrow of the sheet is of no kind, has a step at or beyond the count, or is out of order */
     ULZ_BOTH = 6,         /* includes[a] and excludes[a] have a step in common */
     ULZ_LENGTH = 7,       /* the bytes of a journal are no multiple of 3, or more than ULZ_JOURNAL_BYTES */
@@ -69,7 +74,7 @@ enum {
     ULZ_ILL_FORMED = 10,  /* not a well-formed record for so many steps, or not 65 bytes: see "Records" */
     ULZ_UNKNOWN = 11,     /* the entry's person, step or role is at or beyond its count, or the person of ulz_allowed_to is */
     ULZ_NOT_HELD = 12,    /* the entry's person lacks the role */
-    ULZ_NOT_ON_STEP = 13, /* the entry's step cannot be taken in the role */
+    ULZ_NOT_ON_STEP = 13, /* the action of the entry's step cannot be taken in the role */
     ULZ_EXCLUDED = 14,    /* the entry's step is not included at present */
     ULZ_WAITS = 15,       /* the entry's step waits for steps that are not done: the set in the answer's field waiting */
     ULZ_NOT_APPLIED = 16, /* the record is never, or the marking lacks what it needs */
@@ -83,8 +88,8 @@ static inline const char *ulz_text(uint64_t number) {
         "answered",
         "not laid out as a sheet",
         "a count is out of range",
-        "the role sets of the sheet do not fit its counts",
-        "a set names something that the counts do not have",
+        "the bodies of the sheet do not fit its counts",
+        "something is named that the counts do not have",
         "an arrow of the sheet is wrong or out of order",
         "a step includes and excludes the same step",
         "the bytes of the journal are no multiple of 3, or too many",
@@ -93,7 +98,7 @@ static inline const char *ulz_text(uint64_t number) {
         "the record is not well-formed",
         "no such person, step or role",
         "the person does not hold this role",
-        "the step does not have this role",
+        "the step's action does not have this role",
         "the step is not included",
         "the step waits for steps that are not done",
         "the record does not apply to the marking",
@@ -122,17 +127,27 @@ typedef struct ulz_entry {
 /*
  * A graph. Start from zeros: rows at or beyond the counts have to be 0. No step is in includes[a] and in excludes[a]. A step may
  * stand in its own rows.
+ *
+ * An action is a kind of work, and a step is a place in the job where it is done. Each step has one action, and roles belong to
+ * actions: those of step s are allows[labels[s]]. So steps that share an action cannot differ in their roles. In a graph made by
+ * hand give such steps the same number in labels; where no two share one, actions is steps and labels[s] is s:
+ *
+ *     for (uint64_t s = 0; s < g.steps; s++) g.labels[s] = s;
+ *
+ * There may be more actions than steps, fewer, and some that no step has.
  */
 typedef struct ulz_graph {
     uint64_t steps;          /* how many steps, 1 to 64 */
     uint64_t people;         /* how many people, 1 to 16 */
     uint64_t roles;          /* how many roles, 1 to 16 */
+    uint64_t actions;        /* how many actions, 1 to 64 */
     uint64_t conditions[64]; /* row b: the steps that b waits for, as long as they are included and not done */
     uint64_t responses[64];  /* row a: the steps that become due when a is done */
     uint64_t includes[64];   /* row a: the steps that become included when a is done */
     uint64_t excludes[64];   /* row a: the steps that become excluded when a is done */
-    uint64_t allows[64];     /* row s: the roles in which step s can be taken */
+    uint64_t allows[64];     /* row a: the roles in which action a can be taken */
     uint64_t holds[16];      /* row p: the roles of person p */
+    uint64_t labels[64];     /* row s: the action of step s, a number below actions and no set */
 } ulz_graph;
 
 /* Where a tracker is: see "The tracker". */
@@ -246,8 +261,8 @@ typedef struct ulz_written {
 /*
  * ---- Rules ----
  *
- * An entry is allowed where its person holds the role, its step has the role and is included, and every step in conditions[step]
- * that is included has been done. Taking it leads to the marking after, all read off the marking before:
+ * An entry is allowed where its person holds the role, the action of its step has the role, its step is included, and every step
+ * in conditions[step] that is included has been done. Taking it leads to the marking after, all read off the marking before:
  *
  *     done       gains the step
  *     included   gains includes[step], then loses excludes[step]
@@ -331,9 +346,9 @@ ulz_walked ulz_walk(const uint8_t *journal, size_t length, uint64_t place);
  */
 
 /*
- * The record of a journal. No entry is refused here: one that no marking could allow (a number beyond the counts, a role not held
- * or not on the step, a step that the journal itself has excluded and not included since) makes the record never. Numbers: 2, 4,
- * 6, 7.
+ * The record of a journal. No entry is refused here: one that no marking could allow (a number beyond the counts, a role that the
+ * person or the step's action does not have, a step that the journal itself has excluded and not included since) makes the record
+ * never. Numbers: 2, 4, 6, 7.
  */
 uint64_t ulz_fold(const ulz_graph *graph, const uint8_t *journal, size_t length, uint8_t out[65]);
 
@@ -361,20 +376,24 @@ ulz_ran ulz_restore(const ulz_graph *graph, const uint8_t *record, size_t record
  * ---- Sheets ----
  *
  * A sheet is a graph with the marking that the job begins with, in bytes. Numbers of more than one byte have their lowest byte
- * first. With S steps, P people and A arrows:
+ * first. There are two forms, told apart by byte 0, which is the number of bodies: both are read, and only six bodies are written.
  *
- *     offset            bytes   what
- *     0                 1       5
- *     1                 5       contents of body 1: the byte 1, its offset 26 and its length 3, both in two bytes
- *     6                 5       contents of body 2: 2, offset 29, length 24
- *     11                5       contents of body 3: 3, offset 53, length 2 * S
- *     16                5       contents of body 4: 4, offset 53 + 2 * S, length 2 * P
- *     21                5       contents of body 5: 5, offset 53 + 2 * S + 2 * P, length 3 * A
- *     26                3       body 1: steps, people, roles
- *     29                24      body 2: done, due, included, 8 bytes each
- *     53                2 * S   body 3: the roles of each step, allows[0], allows[1], ..
- *     53 + 2 * S        2 * P   body 4: the roles of each person, holds[0], holds[1], ..
- *     53 + 2 * (S + P)  3 * A   body 5: the arrows, each a kind, a step from and a step to
+ * Six bodies. With S steps, P people, A actions and K arrows, and with B for 59 + 2 * A + 2 * P:
+ *
+ *     offset       bytes   what
+ *     0            1       6
+ *     1            5       contents of body 1: the byte 1, its offset 31 and its length 4, both in two bytes
+ *     6            5       contents of body 2: 2, offset 35, length 24
+ *     11           5       contents of body 3: 3, offset 59, length 2 * A
+ *     16           5       contents of body 4: 4, offset 59 + 2 * A, length 2 * P
+ *     21           5       contents of body 5: 5, offset B, length 3 * K
+ *     26           5       contents of body 6: 6, offset B + 3 * K, length S
+ *     31           4       body 1: steps, people, roles, actions
+ *     35           24      body 2: done, due, included, 8 bytes each
+ *     59           2 * A   body 3: the roles of each action, allows[0], allows[1], ..
+ *     59 + 2 * A   2 * P   body 4: the roles of each person, holds[0], holds[1], ..
+ *     B            3 * K   body 5: the arrows, each a kind, a step from and a step to
+ *     B + 3 * K    S       body 6: the action of each step in one byte, labels[0], labels[1], ..
  *
  * Here the sheet ends. The kinds of arrows, and where they stand in a graph:
  *
@@ -383,21 +402,42 @@ ulz_ran ulz_restore(const ulz_graph *graph, const uint8_t *record, size_t record
  *     2   include     from includes to           includes[from] has to
  *     3   exclude     from excludes to           excludes[from] has to
  *
- * Arrows stand in ascending order, by kind, then from, then to, and none stands twice. So a graph and a marking have one sheet.
+ * Arrows stand in ascending order, by kind, then from, then to, and none stands twice. So a graph and a marking have one sheet of
+ * six bodies, and one that is read and written again has the same bytes.
  *
- * What differs from this in byte 0, in a body's number or offset, in the length of body 1 or 2, in a length of body 5 that is no
- * multiple of 3, or by not ending where body 5 ends, is ULZ_LAYOUT; other lengths of body 3 or 4 are ULZ_BODIES. Fewer than 29
- * bytes, too few for contents and counts, and more than ULZ_SHEET_BYTES are ULZ_LAYOUT without a look at them. From 29 bytes on
- * they are looked at, but none under ULZ_SHEET_LEAST is a sheet.
+ * Five bodies. Here roles stand with the steps, and no action is named. With S steps, P people and K arrows, and with B for
+ * 53 + 2 * S + 2 * P:
+ *
+ *     offset       bytes   what
+ *     0            1       5
+ *     1            5       contents of body 1: 1, offset 26, length 3
+ *     6            5       contents of body 2: 2, offset 29, length 24
+ *     11           5       contents of body 3: 3, offset 53, length 2 * S
+ *     16           5       contents of body 4: 4, offset 53 + 2 * S, length 2 * P
+ *     21           5       contents of body 5: 5, offset B, length 3 * K
+ *     26           3       body 1: steps, people, roles
+ *     29           24      body 2: as above
+ *     53           2 * S   body 3: the roles of each step
+ *     53 + 2 * S   2 * P   body 4: as above
+ *     B            3 * K   body 5: as above; here the sheet ends
+ *
+ * It is read as a graph in which each step is an action of its own: actions is S, labels[s] is s, and allows[s] has the roles of
+ * step s.
+ *
+ * What differs from its form in byte 0, in a body's number or offset, in the length of body 1 or 2, in a length of body 5 that is
+ * no multiple of 3, or by not ending where the last body ends, is ULZ_LAYOUT; other lengths of body 3, 4 or 6 are ULZ_BODIES. Too
+ * few bytes for contents and counts (fewer than 35 with six bodies, 29 with five) and too many (more than ULZ_SHEET_BYTES with
+ * six, 37,077 with five) are ULZ_LAYOUT without a look at the contents. From 35 or 29 bytes on they are looked at, but none under
+ * ULZ_SHEET_WRITTEN_LEAST with six bodies, or under ULZ_SHEET_LEAST with five, is a sheet.
  */
 
 /*
- * Reads a sheet. Graph and marking are written whole, the rows beyond the counts with 0; with any number but ULZ_ANSWERED both stay
- * as they were. Numbers: 1 to 6.
+ * Reads a sheet, of six bodies or of five. Graph and marking are written whole, the rows beyond the counts with 0; with any
+ * number but ULZ_ANSWERED both stay as they were. Numbers: 1 to 6.
  */
 uint64_t ulz_read(const uint8_t *sheet, size_t length, ulz_graph *graph, ulz_marking *marking);
 
-/* Writes a sheet into a room of this length; ULZ_SHEET_BYTES are always enough. Numbers: 2, 4, 6, 18. */
+/* Writes a sheet of six bodies into a room of this length; ULZ_SHEET_BYTES are always enough. Numbers: 2, 4, 6, 18. */
 ulz_written ulz_write(const ulz_graph *graph, ulz_marking marking, uint8_t *room, size_t length);
 
 /*

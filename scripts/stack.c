@@ -55,10 +55,11 @@ static const struct {
 
 /* A full graph: everything responds to and includes everything, nothing waits, and person 0 may do it all. */
 static void prepare(void) {
-    graph.steps = STEPS, graph.people = 16, graph.roles = 16;
+    graph.steps = STEPS, graph.people = 16, graph.roles = 16, graph.actions = STEPS;
     for (int step = 0; step < STEPS; step++) {
         graph.responses[step] = graph.includes[step] = UINT64_MAX;
         graph.allows[step] = 0xffff;
+        graph.labels[step] = (uint64_t)step;
     }
     for (int person = 0; person < 16; person++)
         graph.holds[person] = 0xffff;

@@ -1,7 +1,7 @@
 """Every call once or twice, against what the rules say of the sample job; and what does not fit is refused by Python."""
 
 import ulzhartep
-from day import CHECK, PUBLISH, REBOOT, job, refused
+from day import CHECK, PUBLISH, REBOOT, double_mast, job, refused
 from ulzhartep import Entry, Graph, Marking, Record, Refusal
 
 
@@ -11,6 +11,35 @@ def overflows(call, *arguments):
     except OverflowError:
         return True
     return False
+
+
+def five_bodies(six):
+    """The sample job in both forms, which have bodies 2 to 5 in common, since every step is its own action."""
+    contents = bytes([5, 1, 26, 0, 3, 0, 2, 29, 0, 24, 0, 3, 53, 0, 6, 0, 4, 59, 0, 4, 0, 5, 63, 0, 12, 0])
+    five = contents + six[31:34] + six[35:81]
+    assert len(five) == 75 and Graph.read(five) == Graph.read(six)
+    unknown = six[:82] + b"\3" + six[83:]
+    assert refused(Graph.read, unknown).refusal == Refusal.BEYOND
+
+
+def actions():
+    """2 and 4 as far as they are of actions; and steps of one action have one role set."""
+    for name, row, value, refusal in [
+        ("actions", None, 0, Refusal.COUNTS),
+        ("actions", None, 65, Refusal.COUNTS),
+        ("labels", 2, 3, Refusal.BEYOND),
+        ("labels", 3, 1, Refusal.BEYOND),
+        ("allows", 3, 1, Refusal.BEYOND),
+    ]:
+        graph = job()
+        if row is None:
+            setattr(graph, name, value)
+        else:
+            getattr(graph, name)[row] = value
+        assert refused(graph.check).refusal == refusal
+    mast, start = double_mast(), Marking(included=0b1111)
+    assert [mast.allowed_to(start, person) for person in (0, 1)] == [0b1011, 0b0001]
+    assert refused(mast.ask, start, Entry(1, 3, 1)).text == "the step's action does not have this role"
 
 
 def waiting(start):
@@ -34,10 +63,12 @@ def main():
     graph, start = job(), Marking(0, 0, 0b111)
     rebooted = Marking(0b001, 0b010, 0b011)
     sheet = graph.write(start)
-    assert len(sheet) == 75 and Graph.read(sheet) == (graph, start)
+    assert len(sheet) == 84 and Graph.read(sheet) == (graph, start)
     assert refused(Graph.read, sheet[:-1]).refusal == Refusal.LAYOUT
-    assert refused(graph.write, start, 74).refusal == Refusal.ROOM
-    assert refused(Graph(steps=65, people=1, roles=1).check).refusal == Refusal.COUNTS
+    assert refused(graph.write, start, 83).refusal == Refusal.ROOM
+    assert refused(Graph.bare(65, 1, 1).check).refusal == Refusal.COUNTS
+    five_bodies(sheet)
+    actions()
     asked = graph.ask(start, REBOOT), graph.take(start, REBOOT), start
     assert asked == (None, rebooted, Marking(0, 0, 0b111))
     for entry, refusal in [((2, 0, 0), Refusal.UNKNOWN), ((1, 1, 0), Refusal.NOT_HELD), ((1, 1, 1), Refusal.NOT_ON_STEP)]:

@@ -1,5 +1,5 @@
 """A day of the sample job: 0 reboot, 1 order check, 2 publish. After a reboot nothing is published before the check, also where
-the journal has been folded into a record and forgotten."""
+the journal has been folded into a record and forgotten. And a mast on which the order is checked at two places."""
 
 from ulzhartep import Entry, Graph, Marking, Refused, steps
 
@@ -16,13 +16,23 @@ def print_marking(when, marking):
 
 def job():
     """Publish waits for the check, a reboot makes the check due and excludes publishing, and the check includes it again."""
-    graph = Graph(steps=3, people=2, roles=2)
+    graph = Graph.bare(steps=3, people=2, roles=2)
     graph.conditions[2] = 1 << 1
     graph.responses[0] = 1 << 1
     graph.includes[1] = 1 << 2
     graph.excludes[0] = 1 << 2
     graph.allows[:3] = [0b11, 0b01, 0b10]
     graph.holds[:2] = [0b01, 0b10]
+    return graph
+
+
+def double_mast():
+    """Step 3 checks the order of the other half of the mast. It has the action of step 1, and so its roles, whatever they are."""
+    graph = job()
+    graph.steps = 4
+    graph.labels[3] = graph.labels[1]
+    graph.conditions[2] |= 1 << 3
+    graph.responses[0] |= 1 << 3
     return graph
 
 
@@ -69,6 +79,12 @@ def main():
     starved = graph.lap(start, bytes(CHECK), bytes(REBOOT))
     if starved is not None:
         print(f"rebooting for ever: starves step {starved}")
+
+    mast, start = double_mast(), Marking(included=0b1111)
+    mast.check()
+    print(f"double mast, allowed to person 1: {shown(mast.allowed_to(start, 1))}")
+    mast.allows[mast.labels[1]] |= 1 << 1
+    print(f"the desk may check, allowed to person 1: {shown(mast.allowed_to(start, 1))}")
 
 
 if __name__ == "__main__":

@@ -25,7 +25,11 @@ import pathlib
 
 JOURNAL_BYTES = 65535  # the longest journal: 21,845 entries
 RECORD_BYTES = 65  # every record
-SHEET_BYTES = 37077  # the longest sheet
+SHEET_BYTES = 37147  # the longest sheet, of six bodies
+SHEET_LEAST = 57  # the shortest sheet that is read, of five bodies
+SHEET_WRITTEN_LEAST = 64  # the shortest sheet that is written, of six bodies
+
+_SONAME = "libulzhartep.so.0.3"  # a library whose blocks lie otherwise in memory has another
 
 
 class Refusal(enum.IntEnum):
@@ -55,8 +59,8 @@ TEXTS = (
     "answered",
     "not laid out as a sheet",
     "a count is out of range",
-    "the role sets of the sheet do not fit its counts",
-    "a set names something that the counts do not have",
+    "the bodies of the sheet do not fit its counts",
+    "something is named that the counts do not have",
     "an arrow of the sheet is wrong or out of order",
     "a step includes and excludes the same step",
     "the bytes of the journal are no multiple of 3, or too many",
@@ -65,7 +69,7 @@ TEXTS = (
     "the record is not well-formed",
     "no such person, step or role",
     "the person does not hold this role",
-    "the step does not have this role",
+    "the step's action does not have this role",
     "the step is not included",
     "the step waits for steps that are not done",
     "the record does not apply to the marking",
@@ -187,27 +191,42 @@ class Record(_Block):
 
 
 class Graph(_Block):
-    """A graph. Rows at or beyond the counts have to be 0."""
+    """A graph. Rows at or beyond the counts have to be 0.
+
+    Roles belong to actions, and every step has one action, so that steps with the same action cannot differ in their roles: those
+    of step s are allows[labels[s]].
+    """
 
     _fields_ = [
-        *_fields("steps people roles"),
+        *_fields("steps people roles actions"),
         ("conditions", _words(64)),  # row b: the steps that b waits for
         ("responses", _words(64)),  # row a of this and the next two: the steps that become due, included, excluded
         ("includes", _words(64)),
         ("excludes", _words(64)),
-        ("allows", _words(64)),  # row s: the roles in which step s can be taken
+        ("allows", _words(64)),  # row a: the roles in which action a can be taken
         ("holds", _words(16)),  # row p: the roles of person p
+        ("labels", _words(64)),  # row s: the action of step s, a number and no set
     ]
 
     @classmethod
+    def bare(cls, steps, people, roles):
+        """A graph of these counts without arrows and roles, in which every step is an action of its own. Steps that are to share
+        an action get the same number in labels, and actions becomes how many there are."""
+        graph = cls(steps=steps, people=people, roles=roles, actions=steps)
+        own = range(min(steps, len(graph.labels)))
+        graph.labels[: len(own)] = own
+        return graph
+
+    @classmethod
     def read(cls, sheet):
-        """The graph of a sheet, and the marking that the job begins with."""
+        """The graph of a sheet, and the marking that the job begins with. A sheet of five bodies has a role set for each step; it
+        is read as a graph in which every step is an action of its own."""
         graph, marking = cls(), Marking()
         _number(_library.ulz_read(*_lent(sheet), ctypes.byref(graph), ctypes.byref(marking)))
         return graph, marking
 
     def write(self, marking, length=SHEET_BYTES):
-        """The sheet; refused with 18 where it is longer than this."""
+        """The sheet, of six bodies; refused with 18 where it is longer than this."""
         room = (ctypes.c_uint8 * length)()
         return bytes(room[: _answered(_library.ulz_write(ctypes.byref(self), marking, room, length)).length])
 
@@ -355,11 +374,11 @@ def _load():
     named = os.environ.get("ULZHARTEP_LIB")
     if named:
         path = pathlib.Path(named)
-        return ctypes.PyDLL(str(path / "libulzhartep.so.0" if path.is_dir() else path))
+        return ctypes.PyDLL(str(path / _SONAME if path.is_dir() else path))
     try:
-        return ctypes.PyDLL("libulzhartep.so.0")
+        return ctypes.PyDLL(_SONAME)
     except OSError:
-        return ctypes.PyDLL(str(pathlib.Path(__file__).resolve().parents[2] / "target" / "lib" / "libulzhartep.so.0"))
+        return ctypes.PyDLL(str(pathlib.Path(__file__).resolve().parents[2] / "target" / "lib" / _SONAME))
 
 
 def _declare(library):

@@ -3,14 +3,16 @@ use crate::{border, Allowed, Entry, Graph, Marking, Refusal, Track, Tracked};
 
 /// Sheets.
 impl Graph {
-    /// The graph of a sheet, and the marking that the job begins with.
+    /// The graph of a sheet, and the marking that the job begins with. A sheet of five bodies has a role set for each step; it is
+    /// read as a graph in which every step is an action of its own.
     pub fn read(sheet: &[u8]) -> Result<(Graph, Marking), Refusal> {
         let (mut graph, mut marking) = (Graph::bare(0, 0, 0), Marking::default());
         refused(border::read(sheet, &mut graph, &mut marking), 0)?;
         Ok((graph, marking))
     }
 
-    /// Writes a sheet into the room, where [`SHEET_BYTES`](crate::SHEET_BYTES) are always enough, and answers how long it is.
+    /// Writes a sheet of six bodies into the room, where [`SHEET_BYTES`](crate::SHEET_BYTES) are always enough, and answers how
+    /// long it is.
     pub fn write(&self, marking: Marking, room: &mut [u8]) -> Result<usize, Refusal> {
         let written = border::write(self, marking, room);
         refused(written.number, 0)?;

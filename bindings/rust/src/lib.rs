@@ -41,5 +41,11 @@ pub const JOURNAL_BYTES: usize = 65_535;
 /// Every record, in bytes.
 pub const RECORD_BYTES: usize = 65;
 
-/// The longest sheet, in bytes.
-pub const SHEET_BYTES: usize = 37_077;
+/// The longest sheet, in bytes. It has six bodies; the longest of five has 70 bytes less.
+pub const SHEET_BYTES: usize = 37_147;
+
+/// The shortest sheet that is read, in bytes: of five bodies, with one step, one person, one role and no arrow.
+pub const SHEET_LEAST: usize = 57;
+
+/// The shortest sheet that is written, in bytes, and the shortest of six bodies that is read: the same with one action.
+pub const SHEET_WRITTEN_LEAST: usize = 64;

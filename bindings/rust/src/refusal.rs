@@ -7,11 +7,12 @@ use std::fmt;
 pub enum Refusal {
     /// Not laid out as a sheet.
     Layout,
-    /// Steps or n outside 1 to 64, people or roles outside 1 to 16.
+    /// Steps, actions or n outside 1 to 64, people or roles outside 1 to 16.
     Counts,
-    /// The sheet has not 2 bytes for each step, or not 2 bytes for each person.
+    /// A body of the sheet has not as many bytes as its counts ask for.
     Bodies,
-    /// A set names a step or role that the counts do not have, or a row beyond them is not 0.
+    /// A set names a step or role that the counts do not have, a step has an action that they do not have, or a row beyond
+    /// them is not 0.
     Beyond,
     /// An arrow of the sheet is of no kind, has no such step, or is out of order.
     Arrows,
@@ -29,7 +30,7 @@ pub enum Refusal {
     Unknown,
     /// The entry's person lacks the role.
     NotHeld,
-    /// The entry's step cannot be taken in the role.
+    /// The action of the entry's step cannot be taken in the role.
     NotOnStep,
     /// The entry's step is not included.
     Excluded,
@@ -108,8 +109,8 @@ impl Refusal {
 const TEXTS: [&str; 18] = [
     "not laid out as a sheet",
     "a count is out of range",
-    "the role sets of the sheet do not fit its counts",
-    "a set names something that the counts do not have",
+    "the bodies of the sheet do not fit its counts",
+    "something is named that the counts do not have",
     "an arrow of the sheet is wrong or out of order",
     "a step includes and excludes the same step",
     "the bytes of the journal are no multiple of 3, or too many",
@@ -118,7 +119,7 @@ const TEXTS: [&str; 18] = [
     "the record is not well-formed",
     "no such person, step or role",
     "the person does not hold this role",
-    "the step does not have this role",
+    "the step's action does not have this role",
     "the step is not included",
     "the step waits for steps that are not done",
     "the record does not apply to the marking",

@@ -1,6 +1,7 @@
 //! Every call once or twice, against what the rules say of the sample job: 0 reboot, 1 order check, 2 publish.
 
-use ulzhartep::{apply, join, steps, walk, Entry, Graph, Marking, Passed, Record, Refusal, Verdict, SHEET_BYTES};
+use ulzhartep::{apply, join, steps, walk, Entry, Graph, Marking, Passed, Record, Refusal, Verdict};
+use ulzhartep::{SHEET_BYTES, SHEET_LEAST, SHEET_WRITTEN_LEAST};
 
 const START: Marking = Marking::new(0, 0, 0b111);
 const REBOOTED: Marking = Marking::new(0b001, 0b010, 0b011);
@@ -55,6 +56,34 @@ fn asked_and_refused() {
     assert_eq!(Graph::bare(0, 1, 1).ask(START, REBOOT), Err(Refusal::Counts));
 }
 
+/// Step 3 is a second order check, by its label: what role set the action has, both steps have.
+#[test]
+fn one_action() {
+    let mut g = job();
+    (g.steps, g.labels[3]) = (4, 1);
+    let all = Marking::new(0, 0, 0b1111);
+    let checks = |g: &Graph, role| [1, 3].map(|step| g.ask(all, Entry { person: role, step, role }));
+    assert_eq!([checks(&g, 0), checks(&g, 1)], [[Ok(()); 2], [Err(Refusal::NotOnStep); 2]]);
+    g.allows[1] = 0b10;
+    assert_eq!([checks(&g, 0), checks(&g, 1)], [[Err(Refusal::NotOnStep); 2], [Ok(()); 2]]);
+    assert_eq!([0, 1].map(|person| g.allowed_to(all, person)), [Ok(0b0001), Ok(0b1011)]);
+}
+
+/// 2 and 4 as far as they are of actions; one that no step has is lawful.
+#[test]
+fn actions() {
+    let changed = |change: fn(&mut Graph)| {
+        let mut g = job();
+        change(&mut g);
+        g.check()
+    };
+    assert_eq!([changed(|g| g.actions = 0), changed(|g| g.actions = 65)], [Err(Refusal::Counts); 2]);
+    assert_eq!([changed(|g| g.actions = 64), changed(|g| (g.actions, g.allows[3]) = (4, 0b11))], [Ok(()); 2]);
+    assert_eq!([changed(|g| g.labels[2] = 3), changed(|g| g.labels[2] = u64::MAX)], [Err(Refusal::Beyond); 2]);
+    assert_eq!([changed(|g| g.labels[3] = 1), changed(|g| g.allows[3] = 1)], [Err(Refusal::Beyond); 2]);
+    assert_eq!(changed(|g| g.allows[0] = 0b100), Err(Refusal::Beyond));
+}
+
 /// All steps at once, each allowed in some role; and a person is a whole word.
 #[test]
 fn allowed() {
@@ -98,9 +127,33 @@ fn waiting() {
 fn sheets() {
     let (g, mut room) = (job(), [0; SHEET_BYTES]);
     let length = g.write(START, &mut room).expect("there is room");
-    assert_eq!((length, Graph::read(&room[..length])), (75, Ok((g.clone(), START))));
-    assert_eq!(Graph::read(&room[..74]), Err(Refusal::Layout));
-    assert_eq!(g.write(START, &mut room[..74]), Err(Refusal::Room));
+    assert_eq!((length, Graph::read(&room[..length])), (84, Ok((g.clone(), START))));
+    assert_eq!(Graph::read(&room[..83]), Err(Refusal::Layout));
+    assert_eq!(g.write(START, &mut room[..83]), Err(Refusal::Room));
+    room[82] = 3;
+    assert_eq!(Graph::read(&room[..84]), Err(Refusal::Beyond));
+    room[34] = 65;
+    assert_eq!(Graph::read(&room[..84]), Err(Refusal::Counts));
+}
+
+/// The sample job in both forms, which have bodies 2 to 5 in common, since every step is its own action.
+#[test]
+fn five_bodies() {
+    let (g, mut six) = (job(), [0; 84]);
+    assert_eq!(g.write(START, &mut six), Ok(84));
+    let contents = [5, 1, 26, 0, 3, 0, 2, 29, 0, 24, 0, 3, 53, 0, 6, 0, 4, 59, 0, 4, 0, 5, 63, 0, 12, 0];
+    let five = [&contents[..], &six[31..34], &six[35..81]].concat();
+    assert_eq!((five.len(), Graph::read(&five)), (75, Ok((g, START))));
+}
+
+#[test]
+fn shortest_sheets() {
+    let (mut g, start, mut six) = (Graph::bare(1, 1, 1), Marking::new(0, 0, 1), [0; SHEET_WRITTEN_LEAST]);
+    (g.allows[0], g.holds[0]) = (1, 1);
+    assert_eq!((g.write(start, &mut six), Graph::read(&six)), (Ok(SHEET_WRITTEN_LEAST), Ok((g.clone(), start))));
+    let contents = [5, 1, 26, 0, 3, 0, 2, 29, 0, 24, 0, 3, 53, 0, 2, 0, 4, 55, 0, 2, 0, 5, 57, 0, 0, 0];
+    let five = [&contents[..], &six[31..34], &six[35..63]].concat();
+    assert_eq!((five.len(), Graph::read(&five)), (SHEET_LEAST, Ok((g, start))));
 }
 
 #[test]
@@ -149,7 +202,7 @@ fn numbers() {
     let text = "refused: 15 the step waits for steps that are not done, steps 1 3 7";
     assert_eq!(Refusal::Waits(0b1000_1010).to_string(), text);
     assert_eq!(
-        (Refusal::Room.text(), Refusal::Other(0).text()),
-        ("there is too little room", "no number of this library")
+        (Refusal::NotOnStep.text(), Refusal::Room.text(), Refusal::Other(0).text()),
+        ("the step's action does not have this role", "there is too little room", "no number of this library")
     );
 }
