@@ -1,3 +1,4 @@
 pub mod Tables
 pub mod Bodies
 pub mod Laws
+pub mod Markings

@@ -12,6 +12,7 @@ pub enum Stating {
     Count(u64),
     Entry(Stated),
     Person(u64),
+    Markings(u64),
     Wrong,
 }
 
@@ -75,11 +76,24 @@ fn person_in(call: Call) -> Stating {
     }
 }
 
+// The size of a store may be left out.
+fn markings_in(call: Call) -> Stating {
+    if place(call, 2) == 0 {
+        return Stating::Nothing;
+    }
+    let n = number_at(call, 2, b"MARKINGS is a number, digits 0 to 9 alone");
+    match n {
+        Number::Is(markings) => Stating::Markings(markings),
+        Number::None => Stating::Wrong,
+    }
+}
+
 pub fn stated_in(n: Numbers, call: Call) -> Stating {
     match n {
         Numbers::None => Stating::Nothing,
         Numbers::Count => count_in(call),
         Numbers::Entry => entry_in(call),
         Numbers::Person => person_in(call),
+        Numbers::Markings => markings_in(call),
     }
 }

@@ -31,6 +31,7 @@ fn has_out(s: Shape) -> bool {
     match n {
         Numbers::Entry => false,
         Numbers::Person => false,
+        Numbers::Markings => false,
         _ => true,
     }
 }

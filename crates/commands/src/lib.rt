@@ -11,6 +11,7 @@ pub enum Command {
     Take,
     Run,
     Finished,
+    Ends,
     Fold,
     Join,
     Apply,
@@ -25,12 +26,14 @@ pub enum Command {
     Unknown,
 }
 
-// The numbers among the operands: none; N before the files; or an entry or a person behind them, where else the file to write stands.
+// The numbers among the operands: none; N before the files; or an entry, a person or the size of a store behind them, where else the
+// file to write stands.
 pub enum Numbers {
     None,
     Count,
     Entry,
     Person,
+    Markings,
 }
 
 // The operands of a command: the numbers among them, how many stand before the file to write, and how few and how many there may be.

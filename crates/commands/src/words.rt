@@ -52,6 +52,7 @@ pub fn shape_of(c: Command) -> Shape {
         Command::Take => starting(shaped(Numbers::Entry, 2, 5, 5)),
         Command::Run => starting(shaped(Numbers::None, 2, 2, 3)),
         Command::Finished => asking(shaped(Numbers::None, 2, 2, 2)),
+        Command::Ends => starting(asking(shaped(Numbers::Markings, 2, 2, 3))),
         Command::Fold => folding(shaped(Numbers::None, 2, 3, 3)),
         Command::Join => shaped(Numbers::Count, 3, 4, 4),
         Command::Apply => shaped(Numbers::Count, 3, 3, 4),

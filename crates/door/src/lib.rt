@@ -15,6 +15,7 @@ ghost use Rattle.spelling.specs.Bytes.{theReading, roomOf};
 ghost use Rattle.folding.specs.Answers.{theFold, theRestoring};
 ghost use Rattle.reading.specs.Reading.{firstOf};
 ghost use Rattle.sheet.specs.Sheet.{readVerdict, ifClear, blockRead, theWritten, roomAfter, numberOfWritten, lengthOfWritten};
+ghost use Rattle.deadend.specs.DeadEnd.{theEnds, storeAfter, numberOfEnds, verdictOfEnds, fewestOfEnds, lookedOfEnds};
 ghost use Rattle.tracker.specs.Tracker.{theStart, theIdle, theStep, numberOfTracked, waitingOfTracked};
 ghost use Rattle.answers.specs.Values.{finishedOfEnding, endedOfWalked, lengthOfSpelling};
 ghost use Rattle.answers.specs.Lent.{markingOfWords, markingWords, keptOut};
@@ -34,6 +35,7 @@ use answers::lent;
 use answers::told;
 use moves::Entry;
 use moves::Marking;
+use onward::Ends;
 use onward::Lapped;
 use onward::Track;
 use onward::Tracked;
@@ -154,6 +156,19 @@ pub extern "C" fn ulz_lap<'a, 'b, 'c>(
 {
     let o = laps::lap(g, m, stem, lap);
     onward::endless::lapped(o)
+}
+
+// Can the job still end? What the search finds is written into the store. Refusals 2, 4, 6, 8, 22.
+#[no_mangle]
+pub extern "C" fn ulz_can_end<'a, 'b>(g: &'a Job, m: Marking, store: &'b mut [u8]) -> Ends
+    ensures { λ r. ⌜ r .number ≡ numberOfEnds (theEnds (graphOf (now (g .entry))) m (now (store .entry))) ⌝ }
+    ensures { λ r. ⌜ r .verdict ≡ verdictOfEnds (theEnds (graphOf (now (g .entry))) m (now (store .entry))) ⌝ }
+    ensures { λ r. ⌜ r .fewest ≡ fewestOfEnds (theEnds (graphOf (now (g .entry))) m (now (store .entry))) ⌝ }
+    ensures { λ r. ⌜ r .looked ≡ lookedOfEnds (theEnds (graphOf (now (g .entry))) m (now (store .entry))) ⌝ }
+    ensures { λ r. ⌜ now (store .exit) ≡ storeAfter (graphOf (now (g .entry))) m (now (store .entry)) ⌝ }
+{
+    let o = deadend::can_end(g, m, store);
+    onward::reach::told(o)
 }
 
 // ---- records

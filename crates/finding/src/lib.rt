@@ -4,4 +4,5 @@ pub mod journals;
 pub mod markings;
 pub mod parts;
 pub mod recorded;
+pub mod stores;
 pub mod words;

@@ -1,10 +1,10 @@
 -- A call that tests its table and nothing else gives a number exactly if it is the lowest that holds: the tables go up. A line for each
 -- such call; laps, runs and restores, whose entries come after the table, stand in `Entries`. Assumes nothing.
-use Prim.Native.Nat.{ℕ, _<_}
+use Prim.Native.Nat.{ℕ, zero, suc, _<_}
 use mathlib.Core.Path.{_≡_, refl, sym, subst}
 use mathlib.Core.Logic.{_↔_}
 use mathlib.Core.List.{List, [], _∷_}
-use mathlib.Core.Bool.{true, not}
+use mathlib.Core.Bool.{Bool, true, false, not, cond}
 use Rattle.sets.specs.Truth.{or-false}
 use Rattle.moves.specs.declared.Marking.{Marking}
 use Rattle.moves.specs.declared.Entry.{Entry}
@@ -19,6 +19,8 @@ use Rattle.rules.specs.Asking.{asked-lines}
 use Rattle.rules.specs.Paper.{move-number, ending-number}
 use Rattle.greying.specs.Greying.{choiceLines, theChoice, theChoiceOfAll, numberOfChoice}
 use Rattle.greying.specs.Exactly.{choice-number, all-number}
+use Rattle.deadend.specs.declared.Ends.{Ends}
+use Rattle.deadend.specs.DeadEnd.{searchFrom, search, endsLines, endsOf, theEnds, numberOfEnds}
 use Rattle.kept.specs.Keep.{theKept}
 use Rattle.journal.specs.declared.Stride.{Stride}
 use Rattle.journal.specs.Run.{lengthLines}
@@ -104,6 +106,30 @@ module _ (g : Graph) where
   pub step-given : (t : Track) (e : Entry) → Exactly (numberOfTracked (theStep g t e)) (stepLines g t e)
   unfolding ascends numberOf
   step-given t e = exactly (stepLines g t e) (numberOfTracked (theStep g t e)) refl (step-number g t e)
+
+-- can the job still end: 2, 4, 6, 8, 22; a search that is begun is answered
+number-cond : (b : Bool) (x y : Ends) → numberOfEnds (cond b x y) ≡ cond b (numberOfEnds x) (numberOfEnds y)
+number-cond true x y = refl
+number-cond false x y = refl
+
+cond-same : (b : Bool) (n : ℕ) → cond b n n ≡ n
+cond-same true n = refl
+cond-same false n = refl
+
+search-answered : (k c : ℕ) (g : Graph) (m : Marking) (i : ℕ) → numberOfEnds (searchFrom k c g m i) ≡ 0
+unfolding searchFrom numberOfEnds
+search-answered zero c g m i = refl
+search-answered (suc k) c g m i = simp (number-cond, search-answered k c g m (suc i), cond-same)
+
+ends-number : (v : Verdict) (o : Ends) → numberOfEnds o ≡ 0 → numberOfEnds (endsOf v o) ≡ numberOfVerdict v
+unfolding endsOf numberOfEnds numberOfVerdict
+ends-number Verdict.Clear o e = e
+ends-number (Verdict.Refused r) o e = refl
+
+pub ends-given : (g : Graph) (m : Marking) (s : List ℕ) → Exactly (numberOfEnds (theEnds g m s)) (endsLines g m s)
+unfolding ascends numberOf theEnds search
+ends-given g m s = exactly (endsLines g m s) (numberOfEnds (theEnds g m s)) refl
+    (ends-number (first (endsLines g m s)) _ (search-answered _ _ g m 0))
 
 -- a walk: 7
 walked-number : (k : ℕ) (v : Verdict) (s : Stride) → numberOfWalked (s .said) ≡ 0

@@ -27,7 +27,7 @@ use Rattle.greying.specs.Greying.{numberOfChoice}
 
 -- ---- an entry, and the roles and people that there are
 
-granted-is : (o : Asked) → granted o ≡ true → o ≡ Asked.Allowed
+pub granted-is : (o : Asked) → granted o ≡ true → o ≡ Asked.Allowed
 unfolding granted
 granted-is Asked.Allowed e = refl
 granted-is (Asked.Refused r) e = absurd (false≢true e)
@@ -46,14 +46,15 @@ module _ (g : Graph) (m : Marking) where
   named : (p s r : ℕ) → theAsked g m (entryOf p s r) ≡ Asked.Allowed → Named g (entryOf p s r)
   named p s r e = known-named g (entryOf p s r) (asked-allowed g m (entryOf p s r) e .0 .names)
 
-  to-person : (p s : ℕ) → (allowedTo g m p s ≡ true) ↔ ((r : ℕ) × (theAsked g m (entryOf p s r) ≡ Asked.Allowed))
+  -- a step is allowed to a person exactly if `ask` allows it in some role, and to someone exactly if to some person
+  pub to-person : (p s : ℕ) → (allowedTo g m p s ≡ true) ↔ ((r : ℕ) × (theAsked g m (entryOf p s r) ≡ Asked.Allowed))
   unfolding allowedTo
   to-person p s = (
     λ t. let w = any-at (g .roles) (λ r. granted (theAsked g m (entryOf p s r))) t in (w .0, granted-is _ (w .2)),
     λ w. any-of (g .roles) (λ r. granted (theAsked g m (entryOf p s r))) (w .0) (named p s (w .0) (w .1) .role-in) (is-granted _ (w .1)),
   )
 
-  to-someone : (s : ℕ) → (allowedToSomeone g m s ≡ true) ↔ ((p : ℕ) × ((r : ℕ) × (theAsked g m (entryOf p s r) ≡ Asked.Allowed)))
+  pub to-someone : (s : ℕ) → (allowedToSomeone g m s ≡ true) ↔ ((p : ℕ) × ((r : ℕ) × (theAsked g m (entryOf p s r) ≡ Asked.Allowed)))
   unfolding allowedToSomeone
   to-someone s = (
     λ t. let w = any-at (g .people) (λ p. allowedTo g m p s) t in (w .0, to-person (w .0) s .0 (w .2)),

@@ -1,8 +1,8 @@
 // The steps that are not grey, on a graph with nothing against it.
 ghost use mathlib.Core.Path.{_≡_};
-ghost use Rattle.sets.specs.Sets.{meet};
+ghost use Rattle.sets.specs.Sets.{meet, gather};
 ghost use Rattle.moves.specs.declared.Verdict.{Verdict};
-ghost use Rattle.rules.specs.Graph.{graphOf, graphVerdict};
+ghost use Rattle.rules.specs.Graph.{graphOf, graphVerdict, rolesHeld};
 ghost use Rattle.greying.specs.Greying.{theChoice, theChoiceOfAll};
 ghost use Rattle.greying.specs.Rows.{Tabled, rowPasses, rowsPassing, stepsFor};
 use crate::Choice;
@@ -59,8 +59,16 @@ fn not_excluded(found: u64, included: u64) -> u64
     found & included
 }
 
+// The roles that someone holds.
+pub fn roles_of_all(g: &Job) -> u64
+    ensures { λ r. ⌜ r ≡ gather 16 (rolesHeld (graphOf (now (g .entry)))) ⌝ }
+{
+    let w = &g[..];
+    roles_named(&w[HOLDS..LABELS], 16)
+}
+
 // The steps that who holds these roles may take.
-fn steps_for(g: &Job, m: Marking, held: u64) -> u64
+pub fn steps_for(g: &Job, m: Marking, held: u64) -> u64
     requires { ⌜ graphVerdict (graphOf (now g)) ≡ Verdict.Clear ⌝ }
     ensures { λ r. ⌜ r ≡ stepsFor (graphOf (now (g .entry))) m held ⌝ }
 {
@@ -100,7 +108,6 @@ pub fn choice_of_all_on(g: &Job, m: Marking) -> Choice
     if !fits(g[0], m) {
         return Choice::Refused(Refusal::Outside);
     }
-    let w = &g[..];
-    let held = roles_named(&w[HOLDS..LABELS], 16);
+    let held = roles_of_all(g);
     Choice::Steps(steps_for(g, m, held))
 }

@@ -21,6 +21,7 @@ fn say_commands(page: &mut Page) {
     say_command(page, Command::Take);
     say_command(page, Command::Run);
     say_command(page, Command::Finished);
+    say_command(page, Command::Ends);
     say_command(page, Command::Fold);
     say_command(page, Command::Join);
     say_command(page, Command::Apply);
@@ -35,7 +36,7 @@ fn say_commands(page: &mut Page) {
 }
 
 pub fn say_version(page: &mut Page) {
-    say(page, b"ulz 0.3.0\n");
+    say(page, b"ulz 0.4.0\n");
 }
 
 pub fn say_help(page: &mut Page) {

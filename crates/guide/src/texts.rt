@@ -22,6 +22,10 @@ pub fn say_phrase(page: &mut Page, c: Command) {
             b"where the journal ends, or its first entry that is not allowed\n",
         ),
         Command::Finished => say(page, b"is the job finished after the journal?\n"),
+        Command::Ends => say(
+            page,
+            b"can the job still end after the journal, and in how many entries?\n",
+        ),
         Command::Fold => say(page, b"folds the journal into a record\n"),
         Command::Join => say(
             page,
@@ -119,6 +123,19 @@ fn say_finished_page(page: &mut Page) {
         b"Prints 'finished: yes', or 'finished: no' and the steps to do, those both due and included.\n\
           With --status the exit status is 0 for yes, 1 for no and 2 for anything else, a refusal among them.\n\
           Refusals: 1 to 6, 7, then 11 to 15 of the first entry not allowed.\n",
+    );
+}
+
+fn say_ends_page(page: &mut Page) {
+    say(
+        page,
+        b"Runs the journal and prints where it ends, then 'can end: yes' and the fewest entries that lead from there to a finished job,\n\
+          or 'can end: no' where no entries do. 'looked at' is the number of markings that were looked at on the way.\n\
+          What is found is kept in a store for MARKINGS markings, 1 to 2048, and for 2048 where the number is left out. Where that is\n\
+          full too early to tell, the answer is 'can end: undecided'.\n\
+          It starts at the sheet's first marking, or with --from at that of a file of 24 bytes. With --status the exit status is\n\
+          0 for yes, 1 for no and 2 for anything else, undecided and a refusal among them.\n\
+          Refusals: 1 to 6, 7, 8, then 11 to 15 of the first entry not allowed, then 22 (MARKINGS is not 1 to 2048).\n",
     );
 }
 
@@ -227,6 +244,7 @@ pub fn say_more(page: &mut Page, c: Command) {
         Command::Take => say_take_page(page),
         Command::Run => say_run_page(page),
         Command::Finished => say_finished_page(page),
+        Command::Ends => say_ends_page(page),
         Command::Fold => say_fold_page(page),
         Command::Join => say_join_page(page),
         Command::Apply => say_apply_page(page),

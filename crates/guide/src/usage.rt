@@ -13,6 +13,7 @@ pub fn say_command_word(page: &mut Page, c: Command) {
         Command::Take => say(page, b"take"),
         Command::Run => say(page, b"run"),
         Command::Finished => say(page, b"finished"),
+        Command::Ends => say(page, b"ends"),
         Command::Fold => say(page, b"fold"),
         Command::Join => say(page, b"join"),
         Command::Apply => say(page, b"apply"),
@@ -38,6 +39,10 @@ fn say_operands(page: &mut Page, c: Command) {
         Command::Take => say(page, b" SHEET JOURNAL PERSON STEP ROLE [--from MARKING]"),
         Command::Run => say(page, b" SHEET JOURNAL [OUT] [--from MARKING]"),
         Command::Finished => say(page, b" SHEET JOURNAL [--status]"),
+        Command::Ends => say(
+            page,
+            b" SHEET JOURNAL [MARKINGS] [--from MARKING] [--status]",
+        ),
         Command::Fold => say(page, b" SHEET JOURNAL OUT [--never]"),
         Command::Join => say(page, b" N RECORD RECORD OUT"),
         Command::Apply => say(page, b" N RECORD MARKING [OUT]"),

@@ -35,7 +35,11 @@ fn say_high_words(page: &mut Page, number: u8) {
         15 => say(page, b"the step waits for steps that are not done"),
         16 => say(page, b"the record does not apply to the marking"),
         17 => say(page, b"the lap is empty"),
-        _ => say(page, b"there is too little room"),
+        18 => say(page, b"there is too little room"),
+        _ => say(
+            page,
+            b"the store is no whole number of markings from 1 to 2,048",
+        ),
     }
 }
 

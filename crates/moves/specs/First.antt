@@ -5,7 +5,7 @@ use mathlib.Core.Bool.{Bool, cond}
 use Rattle.moves.specs.declared.Refusal.{Refusal}
 use Rattle.moves.specs.declared.Refusal.the-variants.{Layout, Counts, Bodies, Beyond, Arrows, Both, Length, Outside, NoRank}
 use Rattle.moves.specs.declared.Refusal.the-variants.{IllFormed, Unknown, NotHeld, NotOnStep, Excluded, Waits, NotApplied, EmptyLap}
-use Rattle.moves.specs.declared.Refusal.the-variants.{Room}
+use Rattle.moves.specs.declared.Refusal.the-variants.{Room, Store}
 use Rattle.moves.specs.declared.Told.{Told}
 use Rattle.moves.specs.declared.Verdict.{Verdict}
 
@@ -29,6 +29,7 @@ numberOf (Waits awaited) = 15
 numberOf NotApplied = 16
 numberOf EmptyLap = 17
 numberOf Room = 18
+numberOf Store = 22
 
 -- the set that goes with a refusal: 15 gives the steps that are waited for, every other one the empty set
 unfoldable pub waitingOf : Refusal → ℕ
@@ -50,6 +51,7 @@ waitingOf (Waits awaited) = awaited
 waitingOf NotApplied = 0
 waitingOf EmptyLap = 0
 waitingOf Room = 0
+waitingOf Store = 0
 
 -- both together
 unfoldable pub toldOf : Refusal → Told

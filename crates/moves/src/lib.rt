@@ -53,6 +53,7 @@ pub enum Refusal {
     NotApplied,
     EmptyLap,
     Room,
+    Store,
 }
 
 // Nothing against the input, or the first refusal that holds.
@@ -154,6 +155,10 @@ pub fn tell(r: Refusal) -> Told
         },
         Refusal::Room => Told {
             number: 18,
+            waiting: 0,
+        },
+        Refusal::Store => Told {
+            number: 22,
             waiting: 0,
         },
     }

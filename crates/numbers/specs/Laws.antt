@@ -5,8 +5,9 @@ use mathlib.Core.List.{List, [], _∷_, _++_}
 use native.Mathlib.Nat.{add-zero, zero-add, suc-add, add-suc, pow-suc, div-lt-iff-lt-mul, not-suc-le-zero, le-of-suc-le-suc}
 use native.Mathlib.Numerals.{add-one}
 use native.Mathlib.Omega.{arith}
-use lib.ListN.{length, getD, take, drop, set, length-append}
-use lib.Seq.{sets, length-sets, getD-drop, drop-drop}
+use native.Mathlib.Decide.{decLt}
+use lib.ListN.{length, getD, take, drop, set, length-append, List·getD-eq-default}
+use lib.Seq.{sets, length-sets, getD-take, getD-drop, drop-drop}
 use lib.Dec.{lit<}
 use Rattle.numbers.specs.Numbers.{number, bytes, Bytes, Spliced}
 
@@ -66,6 +67,22 @@ number-bytes (suc w) x rest h =
 -- what is left of bytes is bytes
 pub drop-bytes : (k : ℕ) (s : List ℕ) → Bytes s → Bytes (drop k s)
 drop-bytes k s h i = subst (λ (x : ℕ). x < 256) (sym (getD-drop k s i 0)) (h (k + i))
+
+-- a part of bytes is bytes
+pub take-bytes : (k : ℕ) (s : List ℕ) → Bytes s → Bytes (take k s)
+take-bytes k s b i = go (decLt i k) (decLt i (length (take k s)))
+  where
+    go : Dec (i < k) → Dec (i < length (take k s)) → getD (take k s) i 0 < 256
+    go (yes h) l = subst (λ (x : ℕ). x < 256) (sym (getD-take k s i 0 h)) (b i)
+    go (no h) (yes l) = absurd (let z : length (take k s) ≤ k = most k s in let w : ⊥ = omega arith in w)
+      where
+        most : (k : ℕ) (s : List ℕ) → length (take k s) ≤ k
+        most zero s = omega arith
+        most (suc k) [] = omega arith
+        most (suc k) (x ∷ s) = let r : length (take k s) ≤ k = most k s in omega arith
+    go (no h) (no l) =
+        let z : length (take k s) ≤ i = omega arith in
+        subst (λ (x : ℕ). x < 256) (sym (List·getD-eq-default (take k s) 0 {n = i} z)) (lit< tt)
 
 -- spelling what was read gives the bytes
 pub bytes-number : (w : ℕ) (s : List ℕ) → Bytes s → w ≤ length s → bytes w (number w s) ≡ take w s

@@ -16,13 +16,15 @@ use output::status::Answer;
 use rules::Job;
 use rules::WORDS;
 
-// What to answer: the command with its N, its entry or its people, the arguments that name its files and the marking to start at, and
-// the file to write. A journal that is added to is both, and none that is read where it is not there yet.
+// What to answer: the command with its N, its entry, its people or the markings that its store has room for, the arguments that name its
+// files and the marking to start at, and the file to write. A journal that is added to is both, and none that is read where it is not
+// there yet.
 pub struct Task {
     pub command: Command,
     pub number: u64,
     pub entry: Stated,
     pub whom: Whom,
+    pub markings: u64,
     pub first: usize,
     pub second: usize,
     pub third: usize,
@@ -138,6 +140,7 @@ fn give_of(page: &mut Page, g: &Job, m: Marking, t: Task, b: &[u8], c: &[u8]) ->
         Command::Take => asking::entries::take(page, p, g, m, b, e, o.at),
         Command::Run => running::runs::run(page, p, g, m, b, o),
         Command::Finished => running::runs::finished(page, p, g, m, b),
+        Command::Ends => running::runs::ends(page, p, g, m, b, t.markings),
         Command::Fold => recording::folds::fold(page, p, g, b, o, t.never),
         Command::Restore => recording::applying::restore(page, p, g, m, b, c, o),
         Command::Lap => running::laps_told::lap(page, p, g, m, b, c),

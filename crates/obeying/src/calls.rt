@@ -24,6 +24,7 @@ use files::writing::same_file;
 use lines::states::Stated;
 use output::page::Page;
 use output::status::Answer;
+use reporting::search::MOST;
 
 fn read_and_give(page: &mut Page, t: Task) -> Answer {
     let mut first = io::large_buffer();
@@ -76,12 +77,21 @@ fn whom_of(o: Stating) -> Whom {
     }
 }
 
-fn task_of(command: Command, s: Shape, call: Call, w: Whom) -> Task {
+// A store is the largest one where its size is left out.
+fn markings_of(o: Stating) -> u64 {
+    match o {
+        Stating::Markings(n) => n,
+        _ => MOST,
+    }
+}
+
+fn task_of(command: Command, s: Shape, call: Call, o: Stating) -> Task {
     Task {
         command: command,
         number: 0,
         entry: no_entry(),
-        whom: w,
+        whom: whom_of(o),
+        markings: markings_of(o),
         first: input(s, call, 0),
         second: input(s, call, 1),
         third: input(s, call, 2),
@@ -175,7 +185,7 @@ fn obey(page: &mut Page, c: Command, call: Call) -> Answer {
     }
     let n = s.numbers;
     let o = stated_in(n, call);
-    let t = task_of(c, s, call, whom_of(o));
+    let t = task_of(c, s, call, o);
     match o {
         Stating::Count(number) => obey_task(page, numbered(t, number)),
         Stating::Entry(e) => obey_stated(page, t, e),

@@ -1,4 +1,5 @@
--- The laws of these answers. Assumes nothing.
+-- The law of a lap's answer, which a relation promises. The tracker's answer, and whether a job can still end, are
+-- promised word by word and need none. Assumes nothing.
 use Prim.Native.Nat.{ℕ}
 use mathlib.Core.Path.{_≡_, sym, ap, _∙_}
 use mathlib.Core.List.{List}

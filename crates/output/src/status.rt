@@ -4,10 +4,12 @@ ghost use Rattle.output.specs.Status.{plainOf, askedOf, saidOf, statusOf
 use crate::page::Page;
 use crate::page::flush;
 
-// What a command came to. A question that can be asked by status has the answers yes, which is Answered, and No.
+// What a command came to. A question that can be asked by status has the answers yes, which is Answered, and No; Unsure is neither: it
+// was answered that the room did not suffice to tell.
 pub enum Answer {
     Answered,
     No,
+    Unsure,
     Refused,
     Failed,
 }
@@ -21,6 +23,7 @@ fn told(a: Answer) -> u8
     match a {
         Answer::Answered => 0,
         Answer::No => 0,
+        Answer::Unsure => 0,
         Answer::Refused => 1,
         Answer::Failed => 2,
     }
@@ -32,6 +35,7 @@ fn asked_for(a: Answer) -> u8
     match a {
         Answer::Answered => 0,
         Answer::No => 1,
+        Answer::Unsure => 2,
         Answer::Refused => 2,
         Answer::Failed => 2,
     }

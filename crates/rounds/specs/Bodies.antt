@@ -1,4 +1,4 @@
--- The bodies of counts, marking and rows: reading what was written gives the values, and writing what was read gives the bytes. Each is
+-- The bodies of counts and rows: reading what was written gives the values, and writing what was read gives the bytes. Each is
 -- made of numbers as bytes, for which both hold at any width; so the role sets, of two bytes each, and the actions of the steps, of one,
 -- are rows under the same laws. Assumes nothing.
 use Prim.Native.Nat.{ℕ, zero, suc, _+_, _-_, _*_, _/_, _%_, _^_, _≤_, _<_}
@@ -8,39 +8,22 @@ use mathlib.Core.Bool.{Bool, true, false, cond}
 use native.Mathlib.Nat.{add-zero, mul-zero, mul-suc, mul-le-mul-left, mod-eq-of-lt, not-suc-le-zero, lt-of-lt-of-le}
 use native.Mathlib.Omega.{arith}
 use native.Mathlib.Decide.{decLt}
-use lib.ListN.{length, getD, take, drop, length-drop, List·getD-eq-default}
-use lib.Seq.{getD-take, take-add, take-all, drop-drop}
-use lib.Dec.{ltb, lit<}
+use lib.ListN.{length, take, drop, length-drop}
+use lib.Seq.{take-add, take-all}
+use lib.Dec.{ltb}
 use lib.Pow.{pow-mono}
 use borrow.Author.Tests.{lt-ltb, le-ltb}
 use Rattle.sets.specs.Sets.{within, every}
 use Rattle.sets.specs.Laws.{every-at, every-of}
-use Rattle.moves.specs.declared.Marking.{Marking}
 use Rattle.tables.specs.Tables.{row, keeps, labelsFit}
 use Rattle.tables.specs.Laws.{keeps-row, keeps-gone, label-few, label-below, label-gone}
 use Rattle.numbers.specs.Numbers.{number, bytes, Bytes}
 use Rattle.numbers.specs.Laws.{number-bytes, bytes-number, drop-bytes}
 use Rattle.layout.specs.Lists.{drop-past}
 use Rattle.bodies.specs.Tables.{tabled, length-tabled, row-tabled, tabled-same, tabled-rows}
-use Rattle.bodies.specs.Bodies.{countsBody, countsIn, markingBody, markingIn, rowsBody, rowIn, rolesBody, setAt, setsIn, roleSetsFit}
+use Rattle.bodies.specs.Bodies.{countsBody, countsIn, rowsBody, rowIn, rolesBody, setAt, setsIn, roleSetsFit}
 use Rattle.bodies.specs.Bodies.{labelsBody, labelAt, labelsIn, actionsFit}
 use Rattle.bodies.specs.Laws.{row-past, length-rows}
-
--- a part of bytes is bytes
-pub take-bytes : (k : ℕ) (s : List ℕ) → Bytes s → Bytes (take k s)
-take-bytes k s b i = go (decLt i k) (decLt i (length (take k s)))
-  where
-    go : Dec (i < k) → Dec (i < length (take k s)) → getD (take k s) i 0 < 256
-    go (yes h) l = subst (λ (x : ℕ). x < 256) (sym (getD-take k s i 0 h)) (b i)
-    go (no h) (yes l) = absurd (let z : length (take k s) ≤ k = most k s in let w : ⊥ = omega arith in w)
-      where
-        most : (k : ℕ) (s : List ℕ) → length (take k s) ≤ k
-        most zero s = omega arith
-        most (suc k) [] = omega arith
-        most (suc k) (x ∷ s) = let r : length (take k s) ≤ k = most k s in omega arith
-    go (no h) (no l) =
-        let z : length (take k s) ≤ i = omega arith in
-        subst (λ (x : ℕ). x < 256) (sym (List·getD-eq-default (take k s) 0 {n = i} z)) (lit< tt)
 
 -- ---- counts
 
@@ -68,33 +51,6 @@ counts-written (x ∷ y ∷ z ∷ w ∷ []) b e =
     let t : w % 256 ≡ w = mod-eq-of-lt (b 3) in
     λ i. p i ∷ q i ∷ r i ∷ t i ∷ []
 counts-written (x ∷ y ∷ z ∷ w ∷ v ∷ rest) b e = absurd (let z : ⊥ = omega arith in z)
-
--- ---- the first marking
-
-pub marking-read : (m : Marking) → m .done < 2 ^ 64 → m .due < 2 ^ 64 → m .included < 2 ^ 64 → markingIn (markingBody m) ≡ m
-unfolding bytes
-marking-read m a b c =
-    let x : number 8 (markingBody m) ≡ m .done = number-bytes 8 (m .done) (bytes 8 (m .due) ++ bytes 8 (m .included)) a in
-    let y : number 8 (drop 8 (markingBody m)) ≡ m .due = number-bytes 8 (m .due) (bytes 8 (m .included)) b in
-    let z : number 8 (drop 16 (markingBody m)) ≡ m .included =
-    ap (number 8) (sym (append-nil (bytes 8 (m .included)))) ∙ number-bytes 8 (m .included) [] c in
-    λ i. record { done = x i; due = y i; included = z i }
-
-pub marking-written : (body : List ℕ) → Bytes body → length body ≡ 24 → markingBody (markingIn body) ≡ body
-marking-written body b e =
-    let n : length (drop 8 body) ≡ length body - 8 = length-drop 8 body in
-    let m : length (drop 16 body) ≡ length body - 16 = length-drop 16 body in
-    ap₂ (λ (p q : List ℕ). p ++ q) (bytes-number 8 body b (omega arith))
-    (ap₂ (λ (p q : List ℕ). p ++ q) (bytes-number 8 (drop 8 body) (drop-bytes 8 body b) (omega arith))
-    (bytes-number 8 (drop 16 body) (drop-bytes 16 body b) (omega arith)))
-    ∙ parts body
-    ∙ take-all 24 body (omega arith)
-  where
-    parts : (l : List ℕ) → take 8 l ++ (take 8 (drop 8 l) ++ take 8 (drop 16 l)) ≡ take 24 l
-    parts l =
-        sym (take-add 8 16 l
-        ∙ ap (λ (q : List ℕ). take 8 l ++ q)
-        (take-add 8 8 (drop 8 l) ∙ ap (λ (q : List ℕ). take 8 (drop 8 l) ++ take 8 q) (drop-drop 8 8 l)))
 
 -- ---- rows of w bytes each
 

@@ -38,7 +38,8 @@ use Rattle.writing.specs.Writing.{arrowTable, bodiesOf, sheetBytes, contentLine
 use Rattle.writing.specs.Laws.{Fitting, clear-fitting, graph-clear, marking-clear, part-kept}
 use Rattle.rounds.specs.Says.{Says}
 use Rattle.rounds.specs.Tests.{layout-exactly}
-use Rattle.rounds.specs.Bodies.{counts-read, marking-read, rows-read, kept-roles, roles-fit, kept-labels, labels-rows, labels-fit}
+use Rattle.bodies.specs.Markings.{marking-read}
+use Rattle.rounds.specs.Bodies.{counts-read, rows-read, kept-roles, roles-fit, kept-labels, labels-rows, labels-fit}
 use Rattle.rounds.specs.Arrows.{table-fit, table-read}
 use Rattle.rounds.specs.Longest.{longest, shortest}
 

@@ -23,7 +23,7 @@ use Rattle.arrows.specs.Places.{spelt-arrowsIn}
 use Rattle.arrows.specs.Codec.{arrows-of-table}
 use Rattle.arrows.specs.Rows.{Kept}
 use Rattle.numbers.specs.Numbers.{bytes, Bytes}
-use Rattle.numbers.specs.Laws.{drop-bytes}
+use Rattle.numbers.specs.Laws.{drop-bytes, take-bytes}
 use Rattle.layout.specs.Layout.{laid, contentsFit, offsetAt, sizeAt, bodyAt}
 use Rattle.layout.specs.Laws.{bodiesFrom, fits-laid}
 use Rattle.bodies.specs.Bodies.{countsBody, countsIn, markingBody, rolesBody, setsIn, roleSetsFit, labelsBody, labelsIn, actionsFit}
@@ -38,7 +38,8 @@ use Rattle.sheet.specs.declared.Written.{Written}
 use Rattle.sheet.specs.Sheet.{theWritten, roomAfter}
 use Rattle.sheet.specs.Laws.{clear-after}
 use Rattle.rounds.specs.Says.{Says}
-use Rattle.rounds.specs.Bodies.{take-bytes, counts-written, marking-written, rows-written, roles-kept}
+use Rattle.bodies.specs.Markings.{marking-written}
+use Rattle.rounds.specs.Bodies.{counts-written, rows-written, roles-kept}
 use Rattle.rounds.specs.Bodies.{labels-rows, labels-kept, labels-own}
 use Rattle.rounds.specs.Arrows.{filled-kept}
 use Rattle.rounds.specs.Read.{read-written}

@@ -18,6 +18,7 @@ use moves::Refusal;
 use moves::Told;
 use output::page::Page;
 use output::status::Answer;
+use reporting::ends::say_after;
 use rules::Job;
 
 // Entry k of the journal, with no end of line.
@@ -124,6 +125,15 @@ pub fn finished(page: &mut Page, p: Places, g: &Job, m: Marking, j: &[u8]) -> An
     let o = journal::run(g, m, j);
     match o {
         Ran::Ended(end, _) => say_ending(page, rules::finished(g, end), end),
+        Ran::Stopped(k, before, r) => say_halted(page, p, g, m, j, k, r, before),
+    }
+}
+
+// Can the job still end after the journal? Looked for with a store for that many markings.
+pub fn ends(page: &mut Page, p: Places, g: &Job, m: Marking, j: &[u8], markings: u64) -> Answer {
+    let o = journal::run(g, m, j);
+    match o {
+        Ran::Ended(end, entries) => say_after(page, g, end, entries, markings),
         Ran::Stopped(k, before, r) => say_halted(page, p, g, m, j, k, r, before),
     }
 }

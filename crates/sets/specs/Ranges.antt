@@ -11,8 +11,8 @@ use lib.Pow.{shr-shr, pow-mono}
 use mir.Val.{boolByte}
 use borrow.Author.Tests.{lt-ltb, le-ltb, eq-eqb, eqb-true, eqb-false}
 use Rattle.sets.specs.Sets.{has, single, union, meet, empty, lowest, gather, every, any, those}
-use Rattle.sets.specs.Truth.{same-truth, or-and, or-first, or-second, or-split}
-use Rattle.sets.specs.Laws.{ext, has-union, has-meet, has-those, bit-lt, lt-of-members, empty-members, empty-gather, lowest-has, lowest-below}
+use Rattle.sets.specs.Truth.{same-truth, and-intro, and-right, or-and, or-first, or-second, or-split}
+use Rattle.sets.specs.Laws.{ext, has-zero, has-union, has-meet, has-those, bit-lt, lt-of-members, empty-members, empty-gather, lowest-has, lowest-below}
 
 -- ---- a test holds somewhere in a range exactly if it holds at one of its numbers
 
@@ -147,3 +147,12 @@ those-meet n p x =
     regroup : (a b c : Bool) → ((a && b) && c) ≡ (a && (b && c))
     regroup true b c = refl
     regroup false b c = refl
+
+-- where the test holds of any of them, it holds of the lowest of those of which it holds
+pub lowest-those : (n : ℕ) (p : ℕ → Bool) → any n p ≡ true → p (lowest n (those n p)) ≡ true
+lowest-those n p e =
+    let w = any-at n p e in
+    let member : has (those n p) (w .0) ≡ true = has-those n p (w .0) ∙ and-intro (lt-ltb (w .0) n (w .1)) (w .2) in
+    let some : those n p ≡ 0 → ⊥ = λ z. true≢false (sym member ∙ ap (λ (x : ℕ). has x (w .0)) z ∙ has-zero (w .0)) in
+    let k = lowest n (those n p) in
+    and-right (ltb k n) (p k) (sym (has-those n p k) ∙ lowest-has n (those n p) (those-lt n p) some)

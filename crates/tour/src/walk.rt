@@ -4,6 +4,7 @@ use crate::job::PUBLISH;
 use crate::job::REBOOT;
 use crate::job::START;
 use crate::job::job;
+use crate::job::rewritten;
 use crate::job::say_role_name;
 use crate::job::say_step_name;
 use crate::parts::store_parts;
@@ -23,6 +24,8 @@ use output::page::Page;
 use output::status::Answer;
 use records::Record;
 use records::Recorded;
+use reporting::ends::say_from;
+use reporting::search::MOST;
 use rules::Job;
 
 fn say_state(page: &mut Page, g: &Job, m: Marking) {
@@ -64,6 +67,27 @@ fn tried(page: &mut Page, g: &Job, m: Marking, who: [u8; 3]) -> Marking {
     }
 }
 
+// Can the job still end from marking m, as the reboot has left it? And a job with a slip, after a reboot of its own?
+fn look_ahead(page: &mut Page, g: &Job, m: Marking) -> Answer {
+    say(
+        page,
+        b"\nCan the job still end after the reboot, where only the check is due?\n",
+    );
+    say_from(page, g, m, MOST);
+    say(
+        page,
+        b"\nThe office writes the job anew, and by a slip no role is left to the order check.\n",
+    );
+    let other = rewritten();
+    let rebooted = tried(page, &other, START, REBOOT);
+    say_from(page, &other, rebooted, MOST);
+    say(
+        page,
+        b"The check is due, and nobody may do it: a dead end, found before anyone is on the mast.\n",
+    );
+    Answer::Answered
+}
+
 // What follows where the cabinet has started again.
 fn go_on(page: &mut Page, g: &Job, m: Marking) -> Answer {
     say_state(page, g, m);
@@ -74,7 +98,7 @@ fn go_on(page: &mut Page, g: &Job, m: Marking) -> Answer {
     );
     let checked = tried(page, g, still, CHECK);
     tried(page, g, checked, PUBLISH);
-    Answer::Answered
+    look_ahead(page, g, m)
 }
 
 fn start_again(page: &mut Page, g: &Job, r: Record) -> Answer {

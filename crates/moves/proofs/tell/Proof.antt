@@ -59,6 +59,9 @@ enum-told-16 c = search needs
 enum-told-17 : tie.Need-enum-told-17
 enum-told-17 c = search needs
 
+enum-told-18 : tie.Need-enum-told-18
+enum-told-18 c = search needs
+
 returns : tie.Need-returns
 unfolding toldOf numberOf waitingOf
 returns c = sym (ap toldOf (c .enum-told .given .1))
@@ -131,6 +134,10 @@ returns-18 : tie.Need-returns-18
 unfolding toldOf numberOf waitingOf
 returns-18 c = sym (ap toldOf (c .enum-told17 .given .1))
 
+returns-19 : tie.Need-returns-19
+unfolding toldOf numberOf waitingOf
+returns-19 c = sym (ap toldOf (c .enum-told18 .given .1))
+
 pub tell-spec : {M : Type 1} → statement M
 tell-spec =
     tie.close
@@ -153,6 +160,7 @@ tell-spec =
     enum-told-15
     enum-told-16
     enum-told-17
+    enum-told-18
     returns
     returns-2
     returns-3
@@ -170,4 +178,5 @@ tell-spec =
     returns-15
     returns-16
     returns-17
-    returns-18)
+    returns-18
+    returns-19)

@@ -17,6 +17,9 @@ enum-told-3 c = search needs
 enum-told-4 : tie.Need-enum-told-4
 enum-told-4 c = search needs
 
+enum-told-5 : tie.Need-enum-told-5
+enum-told-5 c = search needs
+
 returns : tie.Need-returns
 unfolding askedOf
 returns c = sym (ap askedOf (c .enum-told .given .1))
@@ -33,7 +36,11 @@ returns-4 : tie.Need-returns-4
 unfolding askedOf
 returns-4 c = sym (ap askedOf (c .enum-told4 .given .1))
 
+returns-5 : tie.Need-returns-5
+unfolding askedOf
+returns-5 c = sym (ap askedOf (c .enum-told5 .given .1))
+
 pub asked-for-spec : {M : Type 1} → statement M
 asked-for-spec =
     tie.close
-    (tie.spec enum-told enum-told-2 enum-told-3 enum-told-4 returns returns-2 returns-3 returns-4)
+    (tie.spec enum-told enum-told-2 enum-told-3 enum-told-4 enum-told-5 returns returns-2 returns-3 returns-4 returns-5)

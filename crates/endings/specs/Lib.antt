@@ -1,0 +1,5 @@
+pub mod Reached
+pub mod Words
+pub mod Endings
+pub mod Stored
+pub mod Samples

@@ -1,0 +1,1 @@
+// What the dead-end report says, over the running of journals. There is no code here.

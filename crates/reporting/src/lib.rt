@@ -1,0 +1,3 @@
+// Whether a job can still end from a marking, in lines.
+pub mod ends;
+pub mod search;
