@@ -1,9 +1,11 @@
 /*
- * A day of the sample job: 0 reboot, 1 order check, 2 publish. After a reboot nothing is published before the check, also where
- * the journal has been folded into a record and forgotten. And a mast on which the order is checked at two places.
+ * A day of the sample job: 0 reboot, 1 order check, 2 publish. After a reboot nothing is published before the check,
+ * also where the journal has been folded into a record and forgotten. Then the job is rewritten and cannot end any
+ * more. And a mast on which the order is checked at two places.
  */
 #include <stdio.h>
 #include <stdlib.h>
+#include <string.h>
 
 #include "ulzhartep.h"
 
@@ -60,6 +62,30 @@ static ulz_graph job(void) {
     g.allows[0] = 1 | 2, g.allows[1] = 1, g.allows[2] = 2;
     g.holds[0] = 1, g.holds[1] = 2;
     return g;
+}
+
+/* With a store for so many markings. */
+static void print_end(const char *when, const ulz_graph *g, ulz_marking marking, size_t markings) {
+    static uint8_t store[ULZ_STORE_MOST * ULZ_MARKING_BYTES];
+    ulz_ends ends = ulz_can_end(g, marking, store, markings * ULZ_MARKING_BYTES);
+    expect(ULZ_ANSWERED, ends.number);
+    const char *can = ends.verdict == ULZ_REACHABLE ? "yes" : ends.verdict == ULZ_NONE ? "no" : "undecided";
+    printf("%s, can end: %s, looked at %d\n", when, can, (int)ends.looked);
+    if (ends.verdict == ULZ_REACHABLE) {
+        ulz_marking last;
+        memcpy(&last, store + (ends.looked - 1) * ULZ_MARKING_BYTES, sizeof last);
+        printf("fewest entries: %d\n", (int)ends.fewest);
+        print_marking("ended", last);
+    }
+}
+
+/* After a reboot the check ends the job. If the office rewrites it so that nobody may check, nothing does. */
+static void the_end(ulz_marking marking) {
+    ulz_graph g = job();
+    print_end("rebooted", &g, marking, ULZ_STORE_MOST);
+    print_end("with a store for one marking", &g, marking, 1);
+    g.allows[1] = 0;
+    print_end("rewritten so that nobody may check", &g, marking, ULZ_STORE_MOST);
 }
 
 /* Step 3 checks the order of the other half of the mast. It has the action of step 1, and so its roles, whatever they are. */
@@ -129,6 +155,7 @@ int main(void) {
     if (lapped.verdict == ULZ_STARVED)
         printf("rebooting for ever: starves step %d\n", (int)lapped.step);
 
+    the_end(marking);
     two_checks();
     return EXIT_SUCCESS;
 }

@@ -1,9 +1,11 @@
-//! A day of the sample job: 0 reboot, 1 order check, 2 publish. After a reboot nothing is published before the check, also where
-//! the journal has been folded into a record and forgotten. And a mast on which the order is checked at two places.
+//! A day of the sample job: 0 reboot, 1 order check, 2 publish. After a reboot nothing is published before the check,
+//! also where the journal has been folded into a record and forgotten. Then the job is rewritten and cannot end any
+//! more. And a mast on which the order is checked at two places.
 
 use std::collections::BTreeSet;
 use std::error::Error;
-use ulzhartep::{steps, Entry, Graph, Marking, Refusal, Verdict};
+use ulzhartep::{markings, steps, CanEnd, Entry, Graph, Marking, Refusal, Verdict};
+use ulzhartep::{MARKING_BYTES, STORE_MOST};
 
 const REBOOT: Entry = Entry {
     person: 0,
@@ -51,6 +53,37 @@ fn job() -> Graph {
     g.allows[..3].copy_from_slice(&[0b11, 0b01, 0b10]);
     g.holds[..2].copy_from_slice(&[0b01, 0b10]);
     g
+}
+
+/// With a store for so many markings.
+fn print_end(when: &str, g: &Graph, marking: Marking, room: usize) -> Result<(), Refusal> {
+    let mut store = vec![0; room * MARKING_BYTES];
+    match g.can_end(marking, &mut store)? {
+        CanEnd::Reachable { fewest, looked } => {
+            println!("{when}, can end: yes, looked at {looked}");
+            println!("fewest entries: {fewest}");
+            if let Some(last) = markings(&store).nth(looked as usize - 1) {
+                print_marking("ended", last);
+            }
+        }
+        CanEnd::None { looked } => println!("{when}, can end: no, looked at {looked}"),
+        CanEnd::Undecided { looked } => println!("{when}, can end: undecided, looked at {looked}"),
+    }
+    Ok(())
+}
+
+/// After a reboot the check ends the job. If the office rewrites it so that nobody may check, nothing does.
+fn the_end(marking: Marking) -> Result<(), Refusal> {
+    let mut g = job();
+    print_end("rebooted", &g, marking, STORE_MOST)?;
+    print_end("with a store for one marking", &g, marking, 1)?;
+    g.allows[1] = 0;
+    print_end(
+        "rewritten so that nobody may check",
+        &g,
+        marking,
+        STORE_MOST,
+    )
 }
 
 /// Step 3 checks the order of the other half of the mast. It has the action of step 1, and so its roles, whatever they are.
@@ -129,6 +162,7 @@ fn main() -> Result<(), Box<dyn Error>> {
     if let Verdict::Starved(step) = g.lap(start, &CHECKED, &REBOOTED)? {
         println!("rebooting for ever: starves step {step}");
     }
+    the_end(marking)?;
     two_checks()?;
     Ok(())
 }

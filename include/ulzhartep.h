@@ -4,6 +4,7 @@
  * A job is a graph of steps. People take steps in roles; some steps wait for others, and taking one makes others due, includes
  * them or excludes them. The library says whether an entry (a person, a step, a role) is allowed at a marking and what becomes of
  * the marking; it runs journals of entries, folds them into records of 65 bytes, and reads and writes jobs as sheets.
+ * It also finds out whether a job can still end.
  *
  * Steps, people, roles and actions are numbered from 0. A set is a word: number s is in it where bit s is 1, UINT64_C(1) << s.
  *
@@ -43,7 +44,7 @@ extern "C" {
  * calls have changed, and a program has to be compiled anew; the shared library's soname has both.
  */
 #define ULZ_VERSION_MAJOR 0
-#define ULZ_VERSION_MINOR 3
+#define ULZ_VERSION_MINOR 4
 #define ULZ_VERSION_PATCH 0
 
 #define ULZ_JOURNAL_BYTES 65535    /* the longest journal: 21,845 entries */
@@ -51,12 +52,15 @@ extern "C" {
 #define ULZ_SHEET_BYTES 37147      /* the longest sheet, of six bodies: 64 steps, 16 people, 64 actions, 12,288 arrows */
 #define ULZ_SHEET_LEAST 57         /* the shortest sheet that is read, of five bodies: one step, person and role, no arrow */
 #define ULZ_SHEET_WRITTEN_LEAST 64 /* the shortest sheet that is written, of six bodies: one action besides */
-#define ULZ_STACK_BYTES 4096       /* no call takes more of a thread's stack, whatever it is given */
+#define ULZ_MARKING_BYTES 24       /* every marking in a store: see "The end" */
+#define ULZ_STORE_MOST 2048        /* the most markings that a store has place for: 49,152 bytes */
+#define ULZ_STACK_BYTES 16384      /* no call takes more of a thread's stack, whatever it is given */
 
 /*
- * The numbers. Each call names those that it can give. It gives the lowest that holds; for a journal that is the lowest of the
- * earliest entry that is not allowed. Two calls keep another order: ulz_restore asks for ULZ_NOT_APPLIED, and ulz_lap for
- * ULZ_EMPTY_LAP, after all numbers up to ULZ_ILL_FORMED and before any entry is looked at.
+ * The numbers, of which no call gives 19 to 21. Each call names those that it can give. It gives the lowest that holds;
+ * for a journal that is the lowest of the earliest entry that is not allowed. Two calls keep another order: ulz_restore
+ * asks for ULZ_NOT_APPLIED, and ulz_lap for ULZ_EMPTY_LAP, after all numbers up to ULZ_ILL_FORMED and before any entry is
+ * looked at.
  */
 enum {
     ULZ_ANSWERED = 0,     /* nothing is against it */
@@ -79,7 +83,8 @@ enum {
     ULZ_WAITS = 15,       /* the entry's step waits for steps that are not done: the set in the answer's field waiting */
     ULZ_NOT_APPLIED = 16, /* the record is never, or the marking lacks what it needs */
     ULZ_EMPTY_LAP = 17,   /* the lap has no entry */
-    ULZ_ROOM = 18         /* the room is shorter than what would be written */
+    ULZ_ROOM = 18,        /* the room is shorter than what would be written */
+    ULZ_STORE = 22        /* the store's length is not ULZ_MARKING_BYTES times a number from 1 to ULZ_STORE_MOST */
 };
 
 /* A number in words, without an end of line. */
@@ -104,8 +109,11 @@ static inline const char *ulz_text(uint64_t number) {
         "the record does not apply to the marking",
         "the lap is empty",
         "there is too little room",
+        NULL, NULL, NULL,
+        "the store is no whole number of markings from 1 to 2,048",
     };
-    return number < sizeof texts / sizeof texts[0] ? texts[number] : "no number of this library";
+    const char *text = number < sizeof texts / sizeof texts[0] ? texts[number] : NULL;
+    return text ? text : "no number of this library";
 }
 
 /* ---- What is handed over ---- */
@@ -173,7 +181,7 @@ typedef struct ulz_record {
 /*
  * ---- Answers ----
  *
- * Every answer has a number, one of those above. All but four have
+ * Every answer has a number, one of those above. All but five have
  *
  *     waiting   with ULZ_WAITS the set of all steps that are waited for: those of conditions[step] that are included and not done
  *               at the marking before the entry. With ULZ_WAITS it is never empty, with every other number it is 0
@@ -244,6 +252,16 @@ typedef struct ulz_lapped {
 } ulz_lapped;
 
 enum { ULZ_ACCEPTED = 1, ULZ_STARVED = 2 };
+
+/* Of ulz_can_end. */
+typedef struct ulz_ends {
+    uint64_t number;
+    uint64_t verdict; /* ULZ_UNDECIDED, ULZ_NONE or ULZ_REACHABLE; 0 where the number is not 0 */
+    uint64_t fewest;  /* with ULZ_REACHABLE the fewest entries that lead to the end, otherwise 0 */
+    uint64_t looked;  /* how many markings were looked at; 0 where the number is not 0 */
+} ulz_ends;
+
+enum { ULZ_UNDECIDED = 1, ULZ_NONE = 2, ULZ_REACHABLE = 3 };
 
 /* Of the tracker's calls. */
 typedef struct ulz_tracked {
@@ -454,6 +472,55 @@ ulz_written ulz_write(const ulz_graph *graph, ulz_marking marking, uint8_t *room
  */
 ulz_lapped ulz_lap(const ulz_graph *graph, ulz_marking marking, const uint8_t *stem, size_t stem_length,
                    const uint8_t *lap, size_t lap_length);
+
+/*
+ * ---- The end ----
+ *
+ * Can a job still end? When a graph has been rewritten, or a role taken away from people, a job may stand at a marking
+ * from which nothing that anybody is allowed to do makes it finished. ulz_can_end searches for the shortest way to the
+ * end, or finds that there is none.
+ *
+ * It keeps the markings that it finds in a store, bytes that the caller lends: ULZ_MARKING_BYTES for each, laid out as
+ * in body 2 of a sheet, which is done, due, included in 8 bytes each, the lowest byte first. These are also the bytes
+ * of an ulz_marking, so that memcpy takes one out. A store has place for 1 to ULZ_STORE_MOST markings. It may lie at
+ * any address and hold anything before the call.
+ *
+ * The marking that is handed over is the first that is found. Then each marking has its turn, in the order of finding,
+ * and that is what "looked at" means:
+ *
+ *     is it finished?   Then the search is over, ULZ_REACHABLE, and the steps of this marking are not tried.
+ *     if not            Every step that ulz_allowed_to_someone gives there is tried, the lowest first. It leads to one
+ *                       marking, whoever takes it and in whatever role. One that is in the store already is passed
+ *                       over. A new one is put behind the others, and where there is no place left for it the search
+ *                       is over at once, ULZ_UNDECIDED.
+ *
+ * If every marking found has had its turn, the search is over too, ULZ_NONE. What the verdicts say:
+ *
+ *     ULZ_REACHABLE     The shortest journal that is allowed from here on and leaves the job finished has fewest
+ *                       entries; that is 0 where the job is finished already. It ends at the marking looked at last,
+ *                       which is at place looked - 1 of the store, counted from 0.
+ *     ULZ_NONE          No journal that is allowed from here on, however long, leaves the job finished. The store has
+ *                       all markings that can still come about; their number is looked.
+ *     ULZ_UNDECIDED     The store is full, and nothing is known of the end: there may even be a finished marking in it
+ *                       whose turn had not come. Lend a larger store and ask again. If this one is of the largest
+ *                       kind, ask once more when the job has gone on.
+ *
+ * All three are answers, with the number ULZ_ANSWERED, and each of them writes to the store. Behind the markings found
+ * the store keeps its bytes. With ULZ_REACHABLE it may have more markings than were looked at, and the answer does not
+ * say how many.
+ *
+ *     static uint8_t store[ULZ_STORE_MOST * ULZ_MARKING_BYTES];
+ *     ulz_ends ends = ulz_can_end(&g, m, store, sizeof store);
+ *     if (ends.number == ULZ_ANSWERED && ends.verdict == ULZ_NONE)
+ *         puts("whatever is done from now on, this job does not end");
+ */
+
+/*
+ * Can the job still end, from this marking on? The store's length is in bytes, ULZ_MARKING_BYTES times the markings
+ * that it has place for. With any number but ULZ_ANSWERED nothing has been looked at, and the store stays as it was.
+ * Numbers: 2, 4, 6, 8, 22.
+ */
+ulz_ends ulz_can_end(const ulz_graph *graph, ulz_marking marking, uint8_t *store, size_t length);
 
 /*
  * ---- The tracker ----

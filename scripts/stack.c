@@ -11,12 +11,15 @@
 enum { ROOM = 1 << 16, PAINT = 0xa5, STEPS = 64 };
 
 static uint8_t stack[ROOM], journal[3 * 2000], sheet[ULZ_SHEET_BYTES], record[ULZ_RECORD_BYTES], out[ULZ_RECORD_BYTES];
+static uint8_t store[ULZ_STORE_MOST * ULZ_MARKING_BYTES];
 static size_t sheet_length;
 static ulz_graph graph, again;
 static ulz_marking start, marking;
 static ulz_track track;
 static ulz_record sets;
 static const ulz_entry entry = {0, 5, 0};
+/* From here on the job is never finished, and a search goes on until its store is full. */
+static const ulz_marking all_due = {0, UINT64_MAX, UINT64_MAX};
 static ucontext_t home, there;
 static uint64_t number;
 
@@ -39,6 +42,7 @@ static void restore(void) { number = ulz_restore(&graph, record, sizeof record, 
 static void reads(void) { number = ulz_read(sheet, sheet_length, &again, &marking); }
 static void writes(void) { number = ulz_write(&graph, start, sheet, sizeof sheet).number; }
 static void lap(void) { number = ulz_lap(&graph, start, journal, sizeof journal, journal, sizeof journal).number; }
+static void can_end(void) { number = ulz_can_end(&graph, all_due, store, sizeof store).number; }
 static void track_start(void) { number = ulz_track_start(&graph, start).number; }
 static void track_idle(void) { number = ulz_track_idle(&graph, track).number; }
 static void track_step(void) { number = ulz_track_step(&graph, track, entry).number; }
@@ -50,7 +54,8 @@ static const struct {
     {"check", check}, {"ask", ask}, {"allowed_to", allowed}, {"allowed_to_someone", someone}, {"take", take},
     {"finished", finished}, {"keep", keep}, {"run", run}, {"walk", walk}, {"fold", fold}, {"join", join}, {"apply", apply},
     {"record_read", record_read}, {"record_write", record_write}, {"restore", restore}, {"write", writes}, {"read", reads},
-    {"lap", lap}, {"track_start", track_start}, {"track_idle", track_idle}, {"track_step", track_step},
+    {"lap", lap}, {"can_end", can_end}, {"track_start", track_start}, {"track_idle", track_idle},
+    {"track_step", track_step},
 };
 
 /* A full graph: everything responds to and includes everything, nothing waits, and person 0 may do it all. */

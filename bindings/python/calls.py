@@ -2,7 +2,7 @@
 
 import ulzhartep
 from day import CHECK, PUBLISH, REBOOT, double_mast, job, refused
-from ulzhartep import Entry, Graph, Marking, Record, Refusal
+from ulzhartep import MARKING_BYTES, STORE_MOST, CanEnd, Entry, Graph, Marking, Record, Refusal, markings
 
 
 def overflows(call, *arguments):
@@ -40,6 +40,40 @@ def actions():
     mast, start = double_mast(), Marking(included=0b1111)
     assert [mast.allowed_to(start, person) for person in (0, 1)] == [0b1011, 0b0001]
     assert refused(mast.ask, start, Entry(1, 3, 1)).text == "the step's action does not have this role"
+
+
+def ends(rebooted):
+    """The three verdicts, and what each leaves in the store."""
+    graph, rest = job(), Marking.read(b"\xa5" * MARKING_BYTES)
+    assert graph.can_end(Marking(included=0b111)) == (CanEnd.REACHABLE, 0, 1)
+    store = bytearray(b"\xa5" * 3 * MARKING_BYTES)
+    assert graph.can_end(rebooted, store) == (CanEnd.REACHABLE, 1, 2)
+    assert markings(store) == [rebooted, Marking(0b011, 0, 0b111), rest]
+    assert graph.can_end(rebooted, bytearray(MARKING_BYTES)) == (CanEnd.UNDECIDED, None, 1)
+    graph.allows[1], store = 0, bytearray(b"\xa5" * 2 * MARKING_BYTES)
+    assert graph.can_end(rebooted, store) == (CanEnd.NONE, None, 1) and markings(store) == [rebooted, rest]
+
+
+def turns():
+    """On the double mast a store for 5 ends with a finished marking, whose turn does not come: a sixth is found before."""
+    mast, store = double_mast(), bytearray(5 * MARKING_BYTES)
+    rebooted = mast.take(Marking(included=0b1111), REBOOT)
+    assert mast.can_end(rebooted, store) == (CanEnd.UNDECIDED, None, 3)
+    assert [mast.finished(marking) for marking in markings(store)] == [False] * 4 + [True]
+    assert mast.can_end(rebooted) == (CanEnd.REACHABLE, 2, 5)
+
+
+def stores(start):
+    """22, after 8: a store is then left alone. One of the largest is a store."""
+    graph, most = job(), STORE_MOST * MARKING_BYTES
+    for length in 0, 1, MARKING_BYTES - 1, MARKING_BYTES + 1, most - 1, most + 1, most + MARKING_BYTES:
+        store = bytearray(b"\xa5" * length)
+        assert refused(graph.can_end, start, store).refusal == Refusal.STORE and store == b"\xa5" * length
+    assert refused(graph.can_end, Marking(8), bytearray()).refusal == Refusal.OUTSIDE
+    assert refused(Graph.bare(0, 1, 1).can_end, start).refusal == Refusal.COUNTS
+    text = "the store is no whole number of markings from 1 to 2,048"
+    assert refused(graph.can_end, start, bytearray(7)).text == text
+    assert graph.can_end(start, bytearray(most)).looked == 1
 
 
 def waiting(start):
@@ -102,6 +136,9 @@ def main():
     assert (track.rank, track.flag, graph.track_idle(track)) == (1, 1, track)
     track = graph.track_step(track, REBOOT)
     assert (track.rank, track.flag, track.marking) == (1, 0, rebooted)
+    ends(rebooted)
+    turns()
+    stores(start)
     waiting(start)
     assert overflows(Entry, 256, 0, 0) and overflows(Marking, 1 << 64) and overflows(ulzhartep.apply, -1, first, start)
     assert overflows(graph.allowed_to, start, 1 << 64) and overflows(graph.allowed_to, start, -1)

@@ -1,7 +1,8 @@
-"""A day of the sample job: 0 reboot, 1 order check, 2 publish. After a reboot nothing is published before the check, also where
-the journal has been folded into a record and forgotten. And a mast on which the order is checked at two places."""
+"""A day of the sample job: 0 reboot, 1 order check, 2 publish. After a reboot nothing is published before the check,
+also where the journal has been folded into a record and forgotten. Then the job is rewritten and cannot end any more.
+And a mast on which the order is checked at two places."""
 
-from ulzhartep import Entry, Graph, Marking, Refused, steps
+from ulzhartep import MARKING_BYTES, STORE_MOST, CanEnd, Entry, Graph, Marking, Refused, markings, steps
 
 REBOOT, CHECK, PUBLISH = Entry(0, 0, 0), Entry(0, 1, 0), Entry(1, 2, 1)
 
@@ -45,6 +46,26 @@ def refused(call, *arguments):
     raise AssertionError("answered")
 
 
+def print_end(when, graph, marking, room):
+    """With a store for so many markings."""
+    store = bytearray(room * MARKING_BYTES)
+    ends = graph.can_end(marking, store)
+    can = {CanEnd.REACHABLE: "yes", CanEnd.NONE: "no", CanEnd.UNDECIDED: "undecided"}[ends.verdict]
+    print(f"{when}, can end: {can}, looked at {ends.looked}")
+    if ends.verdict == CanEnd.REACHABLE:
+        print(f"fewest entries: {ends.fewest}")
+        print_marking("ended", markings(store)[ends.looked - 1])
+
+
+def the_end(marking):
+    """After a reboot the check ends the job. If the office rewrites it so that nobody may check, nothing does."""
+    graph = job()
+    print_end("rebooted", graph, marking, STORE_MOST)
+    print_end("with a store for one marking", graph, marking, 1)
+    graph.allows[1] = 0
+    print_end("rewritten so that nobody may check", graph, marking, STORE_MOST)
+
+
 def main():
     graph, start = job(), Marking(done=0, due=0, included=0b111)
     graph.check()
@@ -80,6 +101,7 @@ def main():
     if starved is not None:
         print(f"rebooting for ever: starves step {starved}")
 
+    the_end(marking)
     mast, start = double_mast(), Marking(included=0b1111)
     mast.check()
     print(f"double mast, allowed to person 1: {shown(mast.allowed_to(start, 1))}")

@@ -18,6 +18,7 @@ The library is the file or the folder that ULZHARTEP_LIB names, or else what the
 repository. The calls hold Python's lock, so that nothing changes that is lent to them.
 """
 
+import collections
 import ctypes
 import enum
 import os
@@ -28,8 +29,10 @@ RECORD_BYTES = 65  # every record
 SHEET_BYTES = 37147  # the longest sheet, of six bodies
 SHEET_LEAST = 57  # the shortest sheet that is read, of five bodies
 SHEET_WRITTEN_LEAST = 64  # the shortest sheet that is written, of six bodies
+MARKING_BYTES = 24  # every marking in a store
+STORE_MOST = 2048  # the most markings that a store has place for
 
-_SONAME = "libulzhartep.so.0.3"  # a library whose blocks lie otherwise in memory has another
+_SONAME = "libulzhartep.so.0.4"  # a library whose blocks lie otherwise in memory has another
 
 
 class Refusal(enum.IntEnum):
@@ -53,6 +56,7 @@ class Refusal(enum.IntEnum):
     NOT_APPLIED = 16
     EMPTY_LAP = 17
     ROOM = 18
+    STORE = 22
 
 
 TEXTS = (
@@ -75,7 +79,20 @@ TEXTS = (
     "the record does not apply to the marking",
     "the lap is empty",
     "there is too little room",
+    *3 * [None],  # no call gives 19 to 21
+    "the store is no whole number of markings from 1 to 2,048",
 )
+
+
+class CanEnd(enum.IntEnum):
+    """Can a job still end?"""
+
+    UNDECIDED = 1  # the store was too small to tell, and a larger one may tell
+    NONE = 2  # whatever is done from here on, the job is never finished
+    REACHABLE = 3  # it can
+
+
+Ends = collections.namedtuple("Ends", "verdict fewest looked")  # of Graph.can_end
 
 
 class Refused(Exception):
@@ -154,7 +171,7 @@ class Marking(_Block):
     @classmethod
     def read(cls, data):
         """Of the 24 bytes that the program writes."""
-        if len(data) != 24:
+        if len(data) != MARKING_BYTES:
             raise ValueError("a marking has 24 bytes")
         return cls.from_buffer_copy(data)
 
@@ -279,6 +296,21 @@ class Graph(_Block):
         lapped = _answered(_library.ulz_lap(ctypes.byref(self), marking, *_lent(stem), *_lent(lap)))
         return lapped.step if lapped.verdict == 2 else None
 
+    def can_end(self, marking, store=None):
+        """Can the job still end from this marking on? Answers Ends: the verdict, which is a CanEnd; with REACHABLE the
+        fewest entries that end it, otherwise None; and how many markings were looked at.
+
+        The markings that are found on the way are written into the store, a bytearray of MARKING_BYTES for each of 1
+        to STORE_MOST, in the order of finding and this one first: markings(store) lists them. Behind them it stays as
+        it was. UNDECIDED leaves it full, and NONE leaves as many as were looked at. REACHABLE leaves at least so many,
+        and the last that was looked at is finished. Where no store is lent, one of the largest is used."""
+        if store is None:
+            store = bytearray(STORE_MOST * MARKING_BYTES)
+        room = (ctypes.c_uint8 * len(store)).from_buffer(store)
+        ends = _answered(_library.ulz_can_end(ctypes.byref(self), marking, room, len(store)))
+        verdict = CanEnd(ends.verdict)
+        return Ends(verdict, ends.fewest if verdict == CanEnd.REACHABLE else None, ends.looked)
+
     def track_start(self, marking):
         """The tracker at the beginning of a job."""
         return _answered(_library.ulz_track_start(ctypes.byref(self), marking)).track
@@ -290,6 +322,11 @@ class Graph(_Block):
     def track_step(self, track, entry):
         """Takes a step at the track's marking, and the tracker goes along."""
         return _answered(_library.ulz_track_step(ctypes.byref(self), track, entry)).track
+
+
+def markings(store):
+    """What a store has place for, in order; the first so many are what can_end has found."""
+    return [Marking.read(store[at : at + MARKING_BYTES]) for at in range(0, len(store), MARKING_BYTES)]
 
 
 def walk(journal, place):
@@ -340,6 +377,10 @@ class _Walked(_Block):
 
 class _Lapped(_Block):
     _fields_ = _fields("number waiting verdict step index lap_pass")
+
+
+class _Ends(_Block):
+    _fields_ = _fields("number verdict fewest looked")
 
 
 class _Tracked(_Block):
@@ -404,6 +445,7 @@ def _declare(library):
         ("ulz_read", word, [*lent, graph, ctypes.POINTER(Marking)]),
         ("ulz_write", _Written, [graph, Marking, room, size]),
         ("ulz_lap", _Lapped, [graph, Marking, *lent, *lent]),
+        ("ulz_can_end", _Ends, [graph, Marking, room, size]),
         ("ulz_track_start", _Tracked, [graph, Marking]),
         ("ulz_track_idle", _Tracked, [graph, Track]),
         ("ulz_track_step", _Tracked, [graph, Track, Entry]),

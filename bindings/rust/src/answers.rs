@@ -79,6 +79,22 @@ pub struct Lapped {
 pub const ACCEPTED: u64 = 1;
 pub const STARVED: u64 = 2;
 
+/// Of the question whether the job can still end: the verdict, with the fewest entries that end it; and how many
+/// markings were looked at. With a number above 0 all of them are 0.
+#[repr(C)]
+#[derive(Clone, Copy, Default, PartialEq, Eq, Debug)]
+pub struct Ends {
+    pub number: u64,
+    pub verdict: u64,
+    pub fewest: u64,
+    pub looked: u64,
+}
+
+/// The verdicts of a search for an end; with a refusal there is none.
+pub const UNDECIDED: u64 = 1;
+pub const NONE: u64 = 2;
+pub const REACHABLE: u64 = 3;
+
 /// Of the tracker.
 #[repr(C)]
 #[derive(Clone, Copy, Default, PartialEq, Eq, Debug)]

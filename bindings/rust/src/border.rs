@@ -1,11 +1,12 @@
-//! The 21 calls as `ulzhartep.h` declares them: the one file of the crate that has to be believed about foreign code.
+//! The 22 calls as `ulzhartep.h` declares them: the one file of the crate that has to be believed about foreign code.
 //!
 //! Markings, entries and tracks go by value, a graph or a record as a pointer to it, bytes of any number as a pointer and their
 //! length. The calls keep none of what is lent, and write only to what is lent by `&mut` or `*mut`. A call is safe where no
 //! pointer is bare.
 
 use crate::{
-    Allowed, Asked, Ending, Entry, Graph, Kept, Lapped, Marking, Moved, Ran, Record, Track, Tracked, Walked, Written,
+    Allowed, Asked, Ending, Ends, Entry, Graph, Kept, Lapped, Marking, Moved, Ran, Record, Track, Tracked, Walked,
+    Written,
 };
 
 unsafe extern "C" {
@@ -55,6 +56,7 @@ unsafe extern "C" {
         lap: *const u8,
         lap_length: usize,
     ) -> Lapped;
+    fn ulz_can_end(graph: &Graph, marking: Marking, store: *mut u8, length: usize) -> Ends;
 }
 
 // SAFETY, for each of these: pointer and length are those of one slice.
@@ -112,4 +114,9 @@ pub fn write(graph: &Graph, marking: Marking, room: &mut [u8]) -> Written {
 #[inline]
 pub fn lap(graph: &Graph, marking: Marking, stem: &[u8], lap: &[u8]) -> Lapped {
     unsafe { ulz_lap(graph, marking, stem.as_ptr(), stem.len(), lap.as_ptr(), lap.len()) }
+}
+
+#[inline]
+pub fn can_end(graph: &Graph, marking: Marking, store: &mut [u8]) -> Ends {
+    unsafe { ulz_can_end(graph, marking, store.as_mut_ptr(), store.len()) }
 }

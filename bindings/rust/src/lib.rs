@@ -21,6 +21,7 @@
 
 mod answers;
 pub mod border;
+mod ends;
 mod graph;
 mod jobs;
 mod journals;
@@ -28,7 +29,9 @@ mod record;
 mod refusal;
 mod state;
 
-pub use answers::{Allowed, Asked, Ending, Kept, Lapped, Moved, Ran, Tracked, Walked, Written, ACCEPTED, STARVED};
+pub use answers::{Allowed, Asked, Ending, Ends, Kept, Lapped, Moved, Ran, Tracked, Walked, Written};
+pub use answers::{ACCEPTED, NONE, REACHABLE, STARVED, UNDECIDED};
+pub use ends::{markings, CanEnd};
 pub use graph::Graph;
 pub use journals::{apply, join, walk, LapRefused, Passed, Stopped, Verdict};
 pub use record::Record;
@@ -40,6 +43,12 @@ pub const JOURNAL_BYTES: usize = 65_535;
 
 /// Every record, in bytes.
 pub const RECORD_BYTES: usize = 65;
+
+/// Every marking in a store, in bytes.
+pub const MARKING_BYTES: usize = 24;
+
+/// The most markings that a store has place for: 49,152 bytes.
+pub const STORE_MOST: usize = 2_048;
 
 /// The longest sheet, in bytes. It has six bodies; the longest of five has 70 bytes less.
 pub const SHEET_BYTES: usize = 37_147;

@@ -2,7 +2,7 @@ use crate::steps;
 use std::error::Error;
 use std::fmt;
 
-/// Why a call is not answered. Each has a number from 1 to 18, and words; `ulzhartep.h` says more of each.
+/// Why a call is not answered. Each has a number, 1 to 18 or 22, and words; `ulzhartep.h` says more of each.
 #[derive(Clone, Copy, PartialEq, Eq, Hash, Debug)]
 pub enum Refusal {
     /// Not laid out as a sheet.
@@ -42,6 +42,8 @@ pub enum Refusal {
     EmptyLap,
     /// The room is shorter than what would be written.
     Room,
+    /// The bytes of a store are no whole number of markings, or place for none, or for too many.
+    Store,
     /// A number that this crate does not know, of a later library.
     Other(u64),
 }
@@ -69,6 +71,7 @@ impl Refusal {
             16 => NotApplied,
             17 => EmptyLap,
             18 => Room,
+            22 => Store,
             number => Other(number),
         }
     }
@@ -94,6 +97,7 @@ impl Refusal {
             NotApplied => 16,
             EmptyLap => 17,
             Room => 18,
+            Store => 22,
             Other(number) => number,
         }
     }
@@ -101,12 +105,14 @@ impl Refusal {
     /// The words that `ulz_text` has for the number.
     pub fn text(self) -> &'static str {
         let at = usize::try_from(self.number()).unwrap_or(usize::MAX).wrapping_sub(1);
-        TEXTS.get(at).copied().unwrap_or("no number of this library")
+        TEXTS.get(at).copied().unwrap_or(NO_NUMBER)
     }
 }
 
+const NO_NUMBER: &str = "no number of this library";
+
 /// The first is for 1.
-const TEXTS: [&str; 18] = [
+const TEXTS: [&str; 22] = [
     "not laid out as a sheet",
     "a count is out of range",
     "the bodies of the sheet do not fit its counts",
@@ -125,6 +131,10 @@ const TEXTS: [&str; 18] = [
     "the record does not apply to the marking",
     "the lap is empty",
     "there is too little room",
+    NO_NUMBER,
+    NO_NUMBER,
+    NO_NUMBER,
+    "the store is no whole number of markings from 1 to 2,048",
 ];
 
 impl fmt::Display for Refusal {

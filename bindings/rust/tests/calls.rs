@@ -1,7 +1,7 @@
 //! Every call once or twice, against what the rules say of the sample job: 0 reboot, 1 order check, 2 publish.
 
-use ulzhartep::{apply, join, steps, walk, Entry, Graph, Marking, Passed, Record, Refusal, Verdict};
-use ulzhartep::{SHEET_BYTES, SHEET_LEAST, SHEET_WRITTEN_LEAST};
+use ulzhartep::{apply, join, markings, steps, walk, CanEnd, Entry, Graph, Marking, Passed, Record, Refusal, Verdict};
+use ulzhartep::{MARKING_BYTES, SHEET_BYTES, SHEET_LEAST, SHEET_WRITTEN_LEAST, STORE_MOST};
 
 const START: Marking = Marking::new(0, 0, 0b111);
 const REBOOTED: Marking = Marking::new(0b001, 0b010, 0b011);
@@ -171,6 +171,54 @@ fn journals() {
     assert_eq!((refused.refusal, refused.index, refused.pass), (Refusal::Excluded, 1, 1));
 }
 
+/// What a search answers from the marking on, in a store for so many markings, and what it leaves there.
+fn ends(g: &Graph, marking: Marking, room: usize) -> (CanEnd, Vec<Marking>) {
+    let mut store = vec![0xa5; room * MARKING_BYTES];
+    let answer = g.can_end(marking, &mut store).expect("a store");
+    (answer, markings(&store).collect())
+}
+
+#[test]
+fn the_three_verdicts() {
+    let (mut g, rest) = (job(), Marking::new(0xa5a5_a5a5_a5a5_a5a5, 0xa5a5_a5a5_a5a5_a5a5, 0xa5a5_a5a5_a5a5_a5a5));
+    let checked = Marking::new(0b011, 0, 0b111);
+    assert_eq!(ends(&g, START, 1), (CanEnd::Reachable { fewest: 0, looked: 1 }, vec![START]));
+    let one_entry = CanEnd::Reachable { fewest: 1, looked: 2 };
+    assert_eq!(ends(&g, REBOOTED, 3), (one_entry, vec![REBOOTED, checked, rest]));
+    assert_eq!(ends(&g, REBOOTED, 1), (CanEnd::Undecided { looked: 1 }, vec![REBOOTED]));
+    g.allows[1] = 0;
+    assert_eq!(ends(&g, REBOOTED, 2), (CanEnd::None { looked: 1 }, vec![REBOOTED, rest]));
+}
+
+/// Two checks, and both are due: a store for 5 ends with a finished marking, whose turn does not come, since a sixth is
+/// found before.
+#[test]
+fn finished_at_its_turn() {
+    let mut g = job();
+    (g.steps, g.labels[3]) = (4, 1);
+    (g.conditions[2], g.responses[0]) = (0b1010, 0b1010);
+    let rebooted = Marking::new(0b0001, 0b1010, 0b1011);
+    let (answer, found) = ends(&g, rebooted, 5);
+    assert_eq!(answer, CanEnd::Undecided { looked: 3 });
+    let finished = found.into_iter().map(|marking| g.finished(marking));
+    assert_eq!(finished.collect::<Vec<_>>(), [Ok(false), Ok(false), Ok(false), Ok(false), Ok(true)]);
+    assert_eq!(ends(&g, rebooted, STORE_MOST).0, CanEnd::Reachable { fewest: 2, looked: 5 });
+}
+
+/// 22, after 8, leaves the store alone.
+#[test]
+fn stores() {
+    let (g, most) = (job(), STORE_MOST * MARKING_BYTES);
+    for length in [0, 1, MARKING_BYTES - 1, MARKING_BYTES + 1, most - 1, most + 1, most + MARKING_BYTES] {
+        let mut store = vec![0xa5; length];
+        assert_eq!(g.can_end(START, &mut store), Err(Refusal::Store), "{length}");
+        assert_eq!(store, vec![0xa5; length]);
+    }
+    assert_eq!(g.can_end(Marking::new(8, 0, 0), &mut []), Err(Refusal::Outside));
+    assert_eq!(Graph::bare(0, 1, 1).can_end(START, &mut []), Err(Refusal::Counts));
+    assert_eq!(markings(&[0; 47]).count(), 1);
+}
+
 #[test]
 fn records() {
     let (g, day) = (job(), journal(&[REBOOT, CHECK]));
@@ -196,13 +244,20 @@ fn tracker() {
 
 #[test]
 fn numbers() {
-    for number in 1..=19 {
+    for number in 1..=23 {
         assert_eq!(Refusal::new(number, 3).number(), number);
     }
     let text = "refused: 15 the step waits for steps that are not done, steps 1 3 7";
     assert_eq!(Refusal::Waits(0b1000_1010).to_string(), text);
     assert_eq!(
-        (Refusal::NotOnStep.text(), Refusal::Room.text(), Refusal::Other(0).text()),
-        ("the step's action does not have this role", "there is too little room", "no number of this library")
+        (Refusal::NotOnStep.text(), Refusal::Room.text(), Refusal::Store.text()),
+        (
+            "the step's action does not have this role",
+            "there is too little room",
+            "the store is no whole number of markings from 1 to 2,048"
+        )
     );
+    for number in [0, 19, 20, 21, 23, u64::MAX] {
+        assert_eq!(Refusal::Other(number).text(), "no number of this library");
+    }
 }
