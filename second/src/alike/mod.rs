@@ -2,6 +2,7 @@
 
 mod asking;
 pub(crate) mod call;
+mod ends;
 mod entries;
 mod jobs;
 mod play;
@@ -30,6 +31,7 @@ pub fn alike(ulz: &Path, second: &Path, jobs: &Jobs, work: &Path) -> Result<Repo
     }
     sheets::play(&work.join("sheets"), &mut report).map_err(|why| format!("sheets alone: {why}"))?;
     entries::play(&work.join("entries"), &mut report).map_err(|why| format!("entries after journals: {why}"))?;
+    ends::play(&work.join("ends"), &mut report).map_err(|why| format!("jobs that can end or cannot: {why}"))?;
     uses::play(&work.join("uses"), &mut report).map_err(|why| format!("right and wrong use: {why}"))?;
     Ok(report)
 }

@@ -3,6 +3,7 @@
 use super::{
     asking::{choices, marking, named, people, taken},
     call::Call,
+    ends::store,
     jobs::{File, Job},
     report::{Came, Report},
 };
@@ -59,8 +60,8 @@ impl Play<'_> {
         self.entries(report, i, journal)
     }
 
-    /// Entries after the journal, asked for and taken, the latter after a copy of it, and what people may take there;
-    /// after one journal of a job from a marking.
+    /// Entries after the journal, asked for and taken, the latter after a copy of it, what people may take there, and
+    /// whether the job can end; after one journal of a job from a marking.
     fn entries(&self, report: &mut Report, i: usize, journal: &File) -> io::Result<()> {
         let turn = 4 * self.index + i;
         let from = self.job.markings.first().filter(|_| i == self.index % 4);
@@ -84,6 +85,9 @@ impl Play<'_> {
         for person in people(&sheet, turn) {
             report.ask(with_from(self.call("may").word(&journal.path).word(person.to_string())))?;
         }
+        let ends = || with_from(self.call("ends").word(&journal.path));
+        report.ask(asked(ends(), turn))?;
+        report.ask(asked(ends().word(store(turn)), turn + 1))?;
         Ok(())
     }
 

@@ -141,13 +141,15 @@ impl Report {
     }
 }
 
-/// They are alike, and each keeps to the form: a complaint is one line, with status 2 and nothing else to be read; only a fold that
-/// is held back has lines and a complaint. A journal has the entry if it was taken, and is otherwise as it was.
+/// They are alike, and each keeps to the form: a complaint is one line, with status 2 and nothing else to be read; only a
+/// fold that is held back has lines and a complaint, and only a search that is undecided has lines, status 2 and no
+/// complaint. A journal has the entry if it was taken, and is otherwise as it was.
 fn came(call: &Call, [one, other]: &[Heard; 2]) -> Came {
     let text = String::from_utf8_lossy(&one.out);
     let never = text.starts_with("never: yes\n");
     let refused = text.lines().find_map(|line| line.strip_prefix("refused: ")?.split(' ').next()?.parse().ok());
-    let failed = one.status == 2 && refused.is_none();
+    let undecided = text.lines().any(|line| line == "can end: undecided");
+    let failed = one.status == 2 && refused.is_none() && !undecided;
     let in_form = if failed {
         matches!(one.err, Complaint::Line(_)) && (one.out.is_empty() || never)
     } else {

@@ -12,7 +12,7 @@ use std::os::unix::ffi::OsStrExt;
 use std::path::{Path, PathBuf};
 
 /// What each command takes; a capital letter stands for a file of the job.
-const USES: [&str; 18] = [
+const USES: [&str; 20] = [
     "check S",
     "show S",
     "write S OUT",
@@ -22,6 +22,8 @@ const USES: [&str; 18] = [
     "take S J 0 0 0",
     "run S J OUT",
     "finished S J",
+    "ends S J",
+    "ends S J 5",
     "fold S J OUT",
     "join 3 R R OUT",
     "apply 3 R M OUT",

@@ -2,7 +2,7 @@
 //! race, and few enough to stay in the nearest cache: the calls are raced, not the memory.
 
 use second::cases::{self, Case, Density, Dice};
-use second::data::{Entry, Graph, Marking};
+use second::data::{Ends, Entry, Graph, Marking};
 use second::peer;
 
 const GRAPHS: u64 = 8;
@@ -88,4 +88,26 @@ pub fn job(entries: usize) -> Job {
     cases::walk(&mut dice, &graph, &mut marking.clone(), entries, &mut journal);
     assert_eq!(journal.len(), 3 * entries, "the walk got stuck");
     Job { graph, marking, journal }
+}
+
+/// A graph that is searched for an end from the marking on.
+pub struct Search {
+    pub graph: Graph,
+    pub marking: Marking,
+}
+
+/// The first graphs of so many steps, with few arrows, whose search ends as wanted with the largest store. Nothing is done
+/// at the start and all is included.
+pub fn searches(steps: usize, wanted: fn(&Ends) -> bool) -> Vec<Search> {
+    let (few, half, mut store) = (Density::Sparse, Density::Thin, vec![0; 24 * 2_048]);
+    let search = |index| {
+        let mut dice = Dice::new(64, index);
+        let graph = shared(&mut dice, steps, [half, half, few, half, few, few]);
+        let all = u64::MAX >> (64 - steps);
+        Search { graph, marking: Marking::new(0, dice.word() & all, all) }
+    };
+    let right = |search: &Search| wanted(&peer::can_end(&search.graph, search.marking, &mut store));
+    let found: Vec<_> = (0..100_000).map(search).filter(right).take(GRAPHS as usize).collect();
+    assert_eq!(found.len(), GRAPHS as usize, "not as many as are wanted");
+    found
 }

@@ -2,6 +2,7 @@
 //! two take turns, on the same inputs and with the same answers.
 
 mod count;
+mod ends;
 mod inputs;
 mod journals;
 mod laps;
@@ -20,4 +21,5 @@ fn main() {
     sheets::run();
     laps::run();
     tracker::run();
+    ends::run();
 }

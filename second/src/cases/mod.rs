@@ -3,6 +3,7 @@
 mod crowds;
 mod damage;
 mod dice;
+pub mod ends;
 mod entries;
 pub mod folds;
 mod graphs;

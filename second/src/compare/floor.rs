@@ -20,7 +20,7 @@ pub struct Call<I: 'static> {
 pub struct Floor<I: 'static> {
     pub name: &'static str,
     pub make: fn(&mut Dice) -> I,
-    /// The same with a journal of full length, where the floor has journals.
+    /// The same with a journal of full length or a store that is nearly filled, where the floor has such.
     pub full: Option<fn(&mut Dice) -> I>,
     /// The number of steps, where it is lawful: each from 1 to 64 must come up.
     pub size: fn(&I) -> Option<u64>,

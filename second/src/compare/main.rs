@@ -1,8 +1,9 @@
 //! `compare [--seed S] [--cases N] [--full M] [--first I] [--only FLOOR]`: makes N random and damaged inputs for each floor, and
-//! M with journals of full length, from case I on; calls the box, the model and the peer, and says how often each answer came
-//! and where they differ. Fails (status 1) where they differ, or where in 20,000 cases or more an answer that a call can give
-//! never came up.
+//! M with journals of full length or nearly full stores, from case I on; calls the box, the model and the peer, and says
+//! how often each answer came and where they differ. Fails (status 1) where they differ, or where in 20,000 cases or more
+//! an answer that a call can give never came up.
 
+mod ends;
 mod floor;
 mod folds;
 mod journals;
@@ -22,8 +23,16 @@ use second::cases::Dice;
 use std::process::ExitCode;
 use ulzhartep::border;
 
-const FLOORS: &[&dyn Play] =
-    &[&rules::FLOOR, &journals::FLOOR, &records::FLOOR, &folds::FLOOR, &sheets::FLOOR, &laps::FLOOR, &tracker::FLOOR];
+const FLOORS: &[&dyn Play] = &[
+    &rules::FLOOR,
+    &journals::FLOOR,
+    &records::FLOOR,
+    &folds::FLOOR,
+    &sheets::FLOOR,
+    &laps::FLOOR,
+    &tracker::FLOOR,
+    &ends::FLOOR,
+];
 
 struct Options {
     seed: u64,

@@ -5,6 +5,6 @@ mod bytes;
 
 pub use bytes::Bytes;
 pub use ulzhartep::{
-    Allowed, Asked, Ending, Entry, Graph, Kept, Lapped, Marking, Moved, Ran, Record, Track, Tracked, Walked, Written,
-    ACCEPTED, STARVED,
+    Allowed, Asked, Ending, Ends, Entry, Graph, Kept, Lapped, Marking, Moved, Ran, Record, Track, Tracked, Walked,
+    Written, ACCEPTED, NONE, REACHABLE, STARVED, UNDECIDED,
 };

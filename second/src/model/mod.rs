@@ -7,6 +7,7 @@
 mod allowed;
 mod ask;
 mod check;
+mod ends;
 mod finished;
 mod graph;
 mod journal;
@@ -22,6 +23,7 @@ mod walk;
 pub use allowed::{allowed_to, allowed_to_someone};
 pub use ask::{ask, ask_entry, waiting};
 pub use check::check;
+pub use ends::can_end;
 pub use finished::finished;
 pub use graph::{members, targets, Graph, Set};
 pub use journal::entries;

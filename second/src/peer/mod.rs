@@ -4,7 +4,9 @@
 mod allowed;
 mod ask;
 mod check;
+mod ends;
 mod finished;
+mod found;
 mod journal;
 mod lap;
 pub mod record;
@@ -18,6 +20,7 @@ mod walk;
 pub use allowed::{allowed_to, allowed_to_someone};
 pub use ask::ask;
 pub use check::check;
+pub use ends::can_end;
 pub use finished::finished;
 pub use lap::lap;
 pub use run::run;

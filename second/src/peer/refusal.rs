@@ -19,6 +19,7 @@ pub enum Refusal {
     NotApplied,
     EmptyLap,
     Room,
+    Store,
 }
 
 impl Refusal {
@@ -43,6 +44,7 @@ impl Refusal {
             Refusal::NotApplied => 16,
             Refusal::EmptyLap => 17,
             Refusal::Room => 18,
+            Refusal::Store => 22,
         }
     }
 

@@ -4,7 +4,7 @@ use super::{
     files::{self, Input},
     help,
     words::{number, operands, sorted, Operands, Words},
-    Answer, Given, Lines,
+    Answer, Given, Lines, Said,
 };
 use std::ffi::{OsStr, OsString};
 use std::os::unix::ffi::OsStrExt;
@@ -58,10 +58,18 @@ fn answered(words: &Words) -> Result<Told, Vec<u8>> {
         Err(Lines(out)) => Ok(Told { out, err: Vec::new(), status: if asked { 2 } else { 1 } }),
         Ok(Answer { never: Some(why), .. }) if !words.options.contains(&"--never") => Ok(held_back(why)),
         Ok(answer) => {
-            let status = (asked && !answer.yes).into();
+            let status = if asked { status(answer.said) } else { 0 };
             let Lines(out) = written(answer, &operands, words.options.contains(&"--force"))?;
             Ok(Told { out, err: Vec::new(), status })
         }
+    }
+}
+
+fn status(said: Said) -> u8 {
+    match said {
+        Said::Yes => 0,
+        Said::No => 1,
+        Said::Undecided => 2,
     }
 }
 
@@ -81,7 +89,8 @@ fn named(name: &OsStr) -> Result<&'static Command, Vec<u8>> {
 }
 
 fn given(operands: &Operands, from: Option<&OsStr>) -> Result<Given, Vec<u8>> {
-    let numbers = numbers(&operands.entry)?;
+    let entry = numbers(&operands.entry, b": a person, step or role is a number, digits 0 to 9 alone")?;
+    let markings = numbers(operands.markings.as_slice(), b": MARKINGS is a number, digits 0 to 9 alone")?;
     if operands.added_to.is_some_and(|name| name == "-") {
         return Err(b"-: the journal is a file, and has to be named".to_vec());
     }
@@ -94,17 +103,17 @@ fn given(operands: &Operands, from: Option<&OsStr>) -> Result<Given, Vec<u8>> {
     let read = operands.inputs.iter().map(|(kind, name)| input(kind, name));
     let files = read.chain(operands.added_to.map(files::read_if_there)).collect::<Result<_, _>>()?;
     let from = from.map(|name| input("MARKING", name)).transpose()?;
-    Ok(Given { n: operands.n, entry: entry(&numbers), person: numbers.first().copied(), files, from })
+    let [person, markings] = [&entry, &markings].map(|numbers| numbers.first().copied());
+    Ok(Given { n: operands.n, entry: any_entry(&entry), person, markings, files, from })
 }
 
-/// Of the words of an entry, or of its person alone.
-fn numbers(words: &[&OsStr]) -> Result<Vec<u64>, Vec<u8>> {
-    let wrong = b": a person, step or role is a number, digits 0 to 9 alone";
+/// What each of these words says, or that one of them is wrong.
+fn numbers(words: &[&OsStr], wrong: &[u8]) -> Result<Vec<u64>, Vec<u8>> {
     words.iter().map(|word| number(word).ok_or_else(|| [word.as_bytes(), wrong].concat())).collect()
 }
 
 /// Where the command takes none, it is any.
-fn entry(numbers: &[u64]) -> AnyEntry {
+fn any_entry(numbers: &[u64]) -> AnyEntry {
     match *numbers {
         [person, step, role] => AnyEntry { person, step, role },
         _ => AnyEntry::default(),

@@ -1,9 +1,9 @@
-use super::{asking, journals, markings, may, records, sheets, Given, Reply};
+use super::{asking, ends, journals, markings, may, records, sheets, Given, Reply};
 
 pub struct Command {
     pub name: &'static str,
-    /// N is a number, PERSON, STEP and ROLE are an entry, OUT is a file that is written; the others are files that are
-    /// read. What stands in brackets may be left out.
+    /// N and MARKINGS are numbers, PERSON, STEP and ROLE are an entry, OUT is a file that is written; the others are files that
+    /// are read. What stands in brackets may be left out.
     pub takes: &'static str,
     /// Besides --force, which goes with OUT.
     pub options: &'static [&'static str],
@@ -53,7 +53,7 @@ const fn command(
 
 const ENTRY: &str = "SHEET JOURNAL PERSON STEP ROLE";
 
-pub static COMMANDS: [Command; 17] = [
+pub static COMMANDS: [Command; 18] = [
     command("check", "SHEET", &[], "is the sheet one?", sheets::check),
     command("show", "SHEET", &[], "what the sheet holds", sheets::show),
     command("write", "SHEET OUT", &[], "the sheet, read and written again", sheets::write),
@@ -68,6 +68,13 @@ pub static COMMANDS: [Command; 17] = [
     command("take", ENTRY, &["--from"], "the same, and an allowed entry is added to the journal", asking::take),
     command("run", "SHEET JOURNAL [OUT]", &["--from"], "where the journal leads", journals::run),
     command("finished", "SHEET JOURNAL", &["--status"], "is the job finished after the journal?", journals::finished),
+    command(
+        "ends",
+        "SHEET JOURNAL [MARKINGS]",
+        &["--from", "--status"],
+        "can the job still end after the journal, and in how many entries?",
+        ends::ends,
+    ),
     command("fold", "SHEET JOURNAL OUT", &["--never"], "the journal's record", records::fold),
     command("join", "N RECORD RECORD OUT", &[], "one record for two", records::join),
     command("apply", "N RECORD MARKING [OUT]", &[], "what the record makes of the marking", records::apply),

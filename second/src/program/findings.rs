@@ -91,6 +91,11 @@ fn known_person(g: &Graph, person: u64) -> Look {
     see(person < g.people, format_args!("person {person}"), all("people", g.people))
 }
 
+/// Number 22 of a store for so many markings.
+pub fn store(markings: u64) -> Option<Finding> {
+    see((1..=2_048).contains(&markings), format_args!("a store for {markings} markings"), "1 to 2048").err()
+}
+
 /// Why an entry is not allowed at a marking, with a number from 11 to 15.
 pub fn entry(g: &Graph, m: &Marking, entry: impl Into<AnyEntry>) -> Option<Finding> {
     not_allowed(g, m, entry.into()).err()

@@ -5,7 +5,7 @@ use super::{
     lines::{flag, rank_and_flag, Lines},
     markings::stored,
     sheets::read,
-    Answer, Given, Reply,
+    Answer, Given, Reply, Said,
 };
 use crate::data::{self, Entry, Lapped, Ran, Tracked, ACCEPTED};
 use crate::model::{self, Graph, Marking};
@@ -42,7 +42,8 @@ pub fn finished(given: &Given) -> Reply {
     let [sheet, journal] = given.files();
     let (g, m) = read(sheet)?;
     let (_, end) = told(&g, model::run(&g, m.write(), journal), journal)?;
-    Ok(Answer { yes: end.pending().is_empty(), ..Answer::new(Lines::default().ending(&end)) })
+    let said = if end.pending().is_empty() { Said::Yes } else { Said::No };
+    Ok(Answer { said, ..Answer::new(Lines::default().ending(&end)) })
 }
 
 pub fn entries(given: &Given) -> Reply {
@@ -107,7 +108,7 @@ pub fn lap(given: &Given) -> Reply {
         0 if verdict == ACCEPTED => Ok(Answer::new(Lines::default().say("verdict", "accepted"))),
         0 => {
             let lines = Lines::default().say("verdict", "starved").say("starved step", step);
-            Ok(Answer { yes: false, ..Answer::new(lines) })
+            Ok(Answer { said: Said::No, ..Answer::new(lines) })
         }
         11..=15 => {
             let (name, journal) = named(pass, stem, lap);

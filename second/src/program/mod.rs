@@ -3,6 +3,7 @@
 mod asking;
 mod call;
 mod commands;
+mod ends;
 mod entries;
 mod files;
 pub(crate) mod findings;
@@ -34,23 +35,32 @@ type Reply = Result<Answer, Lines>;
 struct Answer {
     lines: Lines,
     bytes: Vec<u8>,
-    /// What --status asks for.
-    yes: bool,
+    said: Said,
     /// The bytes are a record that is never, and are written only where that is asked for; otherwise these are the lines.
     never: Option<Lines>,
 }
 
 impl Answer {
     fn new(lines: Lines) -> Self {
-        Answer { lines, bytes: Vec::new(), yes: true, never: None }
+        Answer { lines, bytes: Vec::new(), said: Said::Yes, never: None }
     }
 }
 
-/// What a command is given: a number, an entry or a person alone, files that were read, and the marking to start from.
+/// What --status asks for.
+#[derive(Clone, Copy)]
+enum Said {
+    Yes,
+    No,
+    Undecided,
+}
+
+/// What a command is given: a number, an entry or a person alone, how many markings a store is for, files that were read,
+/// and the marking to start from.
 struct Given {
     n: u64,
     entry: AnyEntry,
     person: Option<u64>,
+    markings: Option<u64>,
     files: Vec<Input>,
     from: Option<Input>,
 }

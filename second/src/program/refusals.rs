@@ -1,4 +1,4 @@
-/// The eighteen numbers in words, the first for 1.
+/// The numbers up to 18 in words, the first for 1.
 const WORDS: [&str; 18] = [
     "not laid out as a sheet",
     "a count is out of range",
@@ -20,7 +20,12 @@ const WORDS: [&str; 18] = [
     "there is too little room",
 ];
 
+const STORE: &str = "the store is no whole number of markings from 1 to 2,048";
+
 /// What a number means, from 1.
 pub fn words(number: u64) -> &'static str {
-    WORDS[number as usize - 1]
+    match number {
+        22 => STORE,
+        _ => WORDS[number as usize - 1],
+    }
 }

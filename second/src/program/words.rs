@@ -37,12 +37,13 @@ pub fn sorted(words: &[OsString]) -> Result<Words<'_>, Vec<u8>> {
     Ok(sorted)
 }
 
-/// The operands behind the command: a number, the words of an entry or of a person alone, files to be read, and a file
-/// to be written or added to.
+/// The operands behind the command: a number, the words of an entry or of a person alone, that of a store's markings,
+/// files to be read, and a file to be written or added to.
 #[derive(Default)]
 pub struct Operands<'a> {
     pub n: u64,
     pub entry: Vec<&'a OsStr>,
+    pub markings: Option<&'a OsStr>,
     pub inputs: Vec<(&'static str, &'a OsStr)>,
     pub out: Option<&'a OsStr>,
     pub added_to: Option<&'a OsStr>,
@@ -58,6 +59,7 @@ pub fn operands<'a>(command: &Command, words: &Words<'a>) -> Option<Operands<'a>
         match *kind {
             "N" => operands.n = number(word)?,
             "PERSON" | "[PERSON]" | "STEP" | "ROLE" => operands.entry.push(word),
+            "[MARKINGS]" => operands.markings = Some(word),
             "OUT" | "[OUT]" => operands.out = Some(word),
             "JOURNAL" if command.adds() => operands.added_to = Some(word),
             kind => operands.inputs.push((kind, word)),

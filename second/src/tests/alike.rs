@@ -95,7 +95,12 @@ fn every_difference_is_seen() {
     assert!(came("complaints", complaints) == Came::Failed);
     let refused = ["echo refused: 5 words; exit 1"; 2];
     assert!(came("refused", refused) == Came::Refused(5, None));
+    let undecided = ["echo entries: 0; echo can end: undecided; exit 2"; 2];
+    assert!(came("undecided", undecided) == Came::Answered("entries: 0".into()));
     for (i, lines) in [
+        ["echo can end: undecided; exit 2", "echo can end: undecided"],
+        ["echo can end: undecided; echo ulz: but >&2; exit 2", "echo can end: undecided; echo second: but >&2; exit 2"],
+        ["echo can end: no; exit 2", "echo can end: no; exit 2"],
         ["echo sheet: ok", "echo sheet: ok; exit 1"],
         ["echo sheet: ok", "echo sheet: no"],
         ["echo refused: 5 words", "echo refused: 5 words; exit 1"],

@@ -162,6 +162,9 @@ fn journals_and_markings() {
     said(findings::marking(Marking::new(0, 1 << 63 | 9, 8), 3), "steps 3 63 in due", "steps 0 to 2");
     said(findings::marking(Marking::new(1, 1, 2), 1), "steps 1 in included", "steps 0 to 0");
     assert_eq!(findings::marking(Marking::new(u64::MAX, 0, 0), 64), None);
+    said(findings::store(0), "a store for 0 markings", "1 to 2048");
+    said(findings::store(2_049), "a store for 2049 markings", "1 to 2048");
+    assert_eq!([findings::store(1), findings::store(2_048)], [None, None]);
 }
 
 #[test]

@@ -4,6 +4,8 @@ mod actions;
 mod alike;
 mod allowed;
 mod asking;
+mod dead_ends;
+mod ends;
 mod findings;
 mod journals;
 mod laps;
@@ -15,7 +17,7 @@ mod sheets;
 mod sizes;
 mod tracker;
 
-use crate::data::{Allowed, Asked, Ending, Entry, Graph, Kept, Lapped, Marking, Moved, Ran, Track, Tracked};
+use crate::data::{Allowed, Asked, Ending, Ends, Entry, Graph, Kept, Lapped, Marking, Moved, Ran, Track, Tracked};
 use crate::{model, peer};
 use std::collections::BTreeSet;
 
@@ -83,6 +85,18 @@ impl Both {
 
     fn finished(&self, m: Marking) -> Ending {
         alike(model::finished(&self.plain, m), peer::finished(&self.graph, m))
+    }
+
+    /// With what a store of so many bytes holds then. The peer leaves the rest of it alone.
+    fn can_end(&self, m: Marking, store: usize) -> (Ends, Vec<Marking>) {
+        let (ends, found) = model::can_end(&self.plain, m, store);
+        let mut lent: Vec<u8> = (0..store).map(|place| place as u8 ^ 0xa5).collect();
+        let after = [&found, &lent[found.len()..]].concat();
+        let peers = peer::can_end(&self.graph, m, &mut lent);
+        let (words, _) = found.as_chunks();
+        let words: Vec<u64> = words.iter().map(|word| u64::from_le_bytes(*word)).collect();
+        assert!(lent == after, "the stores of peer and model");
+        (alike(ends, peers), words.chunks(3).map(|sets| Marking::new(sets[0], sets[1], sets[2])).collect())
     }
 
     fn run(&self, m: Marking, journal: &[u8]) -> Ran {

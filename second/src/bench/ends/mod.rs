@@ -1,0 +1,3 @@
+mod can_end;
+
+pub use can_end::run;
