@@ -1,6 +1,6 @@
 use crate::inputs::{searches, Search};
 use crate::{border, race::race};
-use second::data::{NONE, REACHABLE, UNDECIDED};
+use second::data::{Ends, Graph, Marking, NONE, REACHABLE, UNDECIDED};
 use second::{peer, sample};
 
 /// The bytes of the largest store.
@@ -17,12 +17,18 @@ pub fn run() {
     line("can_end-at-once", &[Search { graph: sample::graph(), marking: sample::REBOOTED }]);
 }
 
+/// Against the peer, which has a hash map, and against one with an index made for the search.
 fn line(name: &str, searches: &[Search]) {
+    against(name, searches, peer::can_end);
+    against(&format!("{name}/slots"), searches, peer::can_end_by_slots);
+}
+
+fn against(name: &str, searches: &[Search], rival: fn(&Graph, Marking, &mut [u8]) -> Ends) {
     race(
         name,
         searches,
         vec![0xa5; STORE],
         |search, store| border::can_end(&search.graph, search.marking, store),
-        |search, store| peer::can_end(&search.graph, search.marking, store),
+        |search, store| rival(&search.graph, search.marking, store),
     );
 }

@@ -41,7 +41,11 @@ fn run(input: &Input) -> Seen {
     let (mut ours, mut peers) = (lent::Bytes::new(store), store.clone());
     seen.ask(graph, &right, |g| border::can_end(g, marking, ours.part()), |g| peer::can_end(g, marking, &mut peers.0));
     ours.expect(&mut seen, "the store of ours", &after);
-    seen.expect("the store of peer", &Bytes(after), &peers);
+    let after = Bytes(after);
+    seen.expect("the store of peer", &after, &peers);
+    let mut slots = store.clone();
+    seen.expect("by slots", &right, &peer::can_end_by_slots(graph, marking, &mut slots.0));
+    seen.expect("the store by slots", &after, &slots);
     seen
 }
 
