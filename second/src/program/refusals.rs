@@ -1,5 +1,5 @@
-/// The numbers up to 18 in words, the first for 1.
-const WORDS: [&str; 18] = [
+/// The numbers in words: 1 to 18, then 22.
+const WORDS: [&str; 19] = [
     "not laid out as a sheet",
     "a count is out of range",
     "the bodies of the sheet do not fit its counts",
@@ -18,14 +18,13 @@ const WORDS: [&str; 18] = [
     "the record does not apply to the marking",
     "the lap is empty",
     "there is too little room",
+    "the store is no whole number of markings from 1 to 2,048",
 ];
-
-const STORE: &str = "the store is no whole number of markings from 1 to 2,048";
 
 /// What a number means, from 1.
 pub fn words(number: u64) -> &'static str {
     match number {
-        22 => STORE,
+        22 => WORDS[18],
         _ => WORDS[number as usize - 1],
     }
 }
