@@ -299,7 +299,7 @@ module _ (g : Graph) (m : Marking) (store : List ℕ) (answered : first (endsLin
 
   -- ---- the three answers
 
-  -- undecided exactly if a new marking had to be stored with the store full before a finished one was looked at
+  -- undecided: exactly if the store runs over before a finished marking has its turn
   pub undecided-exactly : ((k : ℕ) × (theEnds g m store ≡ Ends.Undecided k)) ↔ Overflows (room store) g m
   undecided-exactly = (λ w. there (w .0) (w .1) comes, λ o. back o comes)
     where
@@ -313,7 +313,7 @@ module _ (g : Graph) (m : Marking) (store : List ℕ) (answered : first (endsLin
       back o (reach n p q r s t) = absurd (reach-fits n q r s t o)
       back o (full n p q r s t) = (n + 1, p)
 
-  -- else none exactly if no allowed journal from here ends finished
+  -- where it does not run over, none: exactly if no journal that runs through ends the job
   pub none-exactly : (Overflows (room store) g m → ⊥)
       → ((k : ℕ) × (theEnds g m store ≡ Ends.None k)) ↔ ((n : ℕ) → JournalEnds g m n → ⊥)
   none-exactly fits = (λ w. there (w .0) (w .1) comes, λ out. back out comes)
@@ -328,7 +328,7 @@ module _ (g : Graph) (m : Marking) (store : List ℕ) (answered : first (endsLin
       back out (reach n p q r s t) = absurd (out (depth g m n) (reach-fewest n q r s t .can))
       back out (full n p q r s t) = absurd (fits (record { turn = n; there = q; unended = s; over = t }))
 
-  -- else reachable with n exactly if some allowed journal of n entries ends finished and none of fewer does
+  -- and reachable with n: exactly if a journal of n entries ends it, and none of fewer
   pub reachable-exactly : (Overflows (room store) g m → ⊥) → (n : ℕ)
       → ((k : ℕ) × (theEnds g m store ≡ Ends.Reachable n k)) ↔ FewestEntries g m n
   reachable-exactly fits n = (λ w. there (w .0) (w .1) comes, λ f. back f comes)

@@ -29,8 +29,8 @@ pub record FewestEntries (g : Graph) (m : Marking) (n : ℕ) : Type 0 where
 abbrev pub Unfinished : Graph → Marking → ℕ → Type 0
 Unfinished g m n = (j : ℕ) → j < n → isFinished (at g m j) ≡ false
 
--- with a store for c, a new marking had to be stored with the store full before a finished one was looked at: a marking had its turn, it and
--- those before it are not finished, and with its steps more markings are found than there is room for
+-- a store for c runs over: a marking has its turn, neither it nor one before it is finished, and with its steps more markings are found than
+-- there is room for
 pub record Overflows (c : ℕ) (g : Graph) (m : Marking) : Type 0 where
   pub turn : ℕ
   pub there : turn < length (found g m turn)
