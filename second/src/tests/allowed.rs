@@ -1,6 +1,6 @@
 //! All steps at once that are allowed to a person, or to someone.
 
-use super::{answers, Both};
+use super::{answers, wrong_from_the_start, Both};
 use crate::cases::{self, Case, Dice};
 use crate::data::{Allowed, Entry, Graph, Marking};
 use crate::model::members;
@@ -45,14 +45,7 @@ fn no_person_is_cut_short() {
 /// With a person who is not there as with one who is.
 #[test]
 fn what_is_wrong_with_graph_and_marking_comes_first() {
-    let [mut counts, mut beyond, mut both] = [(); 3].map(|()| sample::graph());
-    counts.people = 17;
-    beyond.holds[2] = 1;
-    (both.includes[0], both.excludes[0]) = (1, 1);
-    let outside = Marking { due: 1 << 3, ..START };
-    for (graph, marking, number) in
-        [(counts, outside, 2), (beyond, outside, 4), (both, outside, 6), (sample::graph(), outside, 8)]
-    {
+    for (graph, marking, number) in wrong_from_the_start() {
         let job = Both::new(graph);
         assert!([0, 2].into_iter().chain(NOBODY).all(|person| job.allowed_to(marking, person) == refused(number)));
         assert_eq!(job.allowed_to_someone(marking), refused(number));

@@ -1,6 +1,6 @@
 //! Can the job still end?
 
-use super::{answers, Both};
+use super::{answers, wrong_from_the_start, Both};
 use crate::cases::{ends, Dice};
 use crate::data::{Ends, Entry, Graph, Marking, NONE, REACHABLE, UNDECIDED};
 use crate::model;
@@ -120,14 +120,7 @@ fn markings_that_were_found_before_are_passed_over() {
 
 #[test]
 fn refusals_in_their_order() {
-    let [mut counts, mut beyond, mut both] = [(); 3].map(|()| sample::graph());
-    counts.people = 17;
-    beyond.holds[2] = 1;
-    (both.includes[0], both.excludes[0]) = (1, 1);
-    let outside = Marking { due: 1 << 3, ..START };
-    for (graph, marking, number) in
-        [(counts, outside, 2), (beyond, outside, 4), (both, outside, 6), (sample::graph(), outside, 8)]
-    {
+    for (graph, marking, number) in wrong_from_the_start() {
         let job = Both::new(graph);
         assert!([0, 1, 24, 24 * 2_049].iter().all(|store| job.can_end(marking, *store) == (refused(number), vec![])));
     }

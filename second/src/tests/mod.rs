@@ -18,12 +18,22 @@ mod sizes;
 mod tracker;
 
 use crate::data::{Allowed, Asked, Ending, Ends, Entry, Graph, Kept, Lapped, Marking, Moved, Ran, Track, Tracked};
-use crate::{model, peer};
+use crate::{model, peer, sample};
 use std::collections::BTreeSet;
 
 /// The numbers that a call must have given.
 fn answers(call: &'static str, numbers: &[u64]) -> BTreeSet<(&'static str, u64)> {
     numbers.iter().map(|number| (call, *number)).collect()
+}
+
+/// The sample job with something against the graph or the marking, and its number. The marking is wrong in each.
+fn wrong_from_the_start() -> [(Graph, Marking, u64); 4] {
+    let [mut counts, mut beyond, mut both] = [(); 3].map(|()| sample::graph());
+    counts.people = 17;
+    beyond.holds[2] = 1;
+    (both.includes[0], both.excludes[0]) = (1, 1);
+    let outside = Marking { due: 1 << 3, ..sample::START };
+    [(counts, outside, 2), (beyond, outside, 4), (both, outside, 6), (sample::graph(), outside, 8)]
 }
 
 /// How many steps are waited for: none, one, some as 2, or nearly all as 63.
