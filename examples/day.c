@@ -1,7 +1,7 @@
 /*
  * A day of the sample job: 0 reboot, 1 order check, 2 publish. After a reboot nothing is published before the check,
  * also where the journal has been folded into a record and forgotten. Then the job is rewritten and cannot end any
- * more. And a mast on which the order is checked at two places.
+ * more. A mast on which the order is checked at two places. And the cabinet's job for a mast with three arms.
  */
 #include <stdio.h>
 #include <stdlib.h>
@@ -107,6 +107,30 @@ static void two_checks(void) {
     print_allowed("the desk may check, ", &g, start, 1);
 }
 
+/* The box writes the sheet. It is published once each arm has been checked, from the ground up. */
+static void three_arms(void) {
+    static const uint8_t hurried[] = {0, 0, 0, 1, 4, 1}, climbed[] = {0, 1, 0, 0, 2, 0, 0, 3, 0, 1, 4, 1};
+    uint8_t sheet[312];
+    ulz_written written = ulz_cabinet(17, sheet, sizeof sheet);
+    expect(ULZ_ARMS, written.number);
+    printf("cabinet with 17 arms: refused with %d, %s\n", (int)written.number, ulz_text(written.number));
+    written = ulz_cabinet(3, sheet, sizeof sheet);
+    expect(ULZ_ANSWERED, written.number);
+    printf("cabinet with 3 arms: %d bytes\n", (int)written.length);
+
+    ulz_graph g = {0};
+    ulz_marking start = {0, 0, 0};
+    expect(ULZ_ANSWERED, ulz_read(sheet, written.length, &g, &start));
+    print_marking("it begins with", start);
+    ulz_ran ran = ulz_run(&g, start, hurried, sizeof hurried);
+    expect(ULZ_EXCLUDED, ran.number);
+    printf("rebooted, publish: refused with %d at entry %d, %s\n", (int)ran.number, (int)ran.entries, ulz_text(ran.number));
+    ran = ulz_run(&g, ran.marking, climbed, sizeof climbed);
+    expect(ULZ_ANSWERED, ran.number);
+    printf("three checks, publish: %d entries taken\n", (int)ran.entries);
+    print_marking("published", ran.marking);
+}
+
 int main(void) {
     const ulz_graph g = job();
     const ulz_marking start = {0, 0, 7};
@@ -157,5 +181,6 @@ int main(void) {
 
     the_end(marking);
     two_checks();
+    three_arms();
     return EXIT_SUCCESS;
 }

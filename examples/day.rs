@@ -1,10 +1,10 @@
 //! A day of the sample job: 0 reboot, 1 order check, 2 publish. After a reboot nothing is published before the check,
 //! also where the journal has been folded into a record and forgotten. Then the job is rewritten and cannot end any
-//! more. And a mast on which the order is checked at two places.
+//! more. A mast on which the order is checked at two places. And the cabinet's job for a mast with three arms.
 
 use std::collections::BTreeSet;
 use std::error::Error;
-use ulzhartep::{markings, steps, CanEnd, Entry, Graph, Marking, Refusal, Verdict};
+use ulzhartep::{cabinet, markings, steps, CanEnd, Entry, Graph, Marking, Refusal, Verdict};
 use ulzhartep::{MARKING_BYTES, STORE_MOST};
 
 const REBOOT: Entry = Entry {
@@ -107,6 +107,33 @@ fn two_checks() -> Result<(), Refusal> {
     Ok(())
 }
 
+/// The box writes the sheet. It is published once each arm has been checked, from the ground up.
+fn three_arms() -> Result<(), Box<dyn Error>> {
+    const HURRIED: [u8; 6] = [0, 0, 0, 1, 4, 1];
+    const CLIMBED: [u8; 12] = [0, 1, 0, 0, 2, 0, 0, 3, 0, 1, 4, 1];
+    let mut sheet = [0; 312];
+    if let Err(refusal) = cabinet(17, &mut sheet) {
+        let (number, text) = (refusal.number(), refusal.text());
+        println!("cabinet with 17 arms: refused with {number}, {text}");
+    }
+    let length = cabinet(3, &mut sheet)?;
+    println!("cabinet with 3 arms: {length} bytes");
+
+    let (g, start) = Graph::read(&sheet[..length])?;
+    print_marking("it begins with", start);
+    if let Err(stopped) = g.run(start, &HURRIED) {
+        let (number, text) = (stopped.refusal.number(), stopped.refusal.text());
+        println!(
+            "rebooted, publish: refused with {number} at entry {}, {text}",
+            stopped.entries
+        );
+        let passed = g.run(stopped.marking, &CLIMBED)?;
+        println!("three checks, publish: {} entries taken", passed.entries);
+        print_marking("published", passed.marking);
+    }
+    Ok(())
+}
+
 fn main() -> Result<(), Box<dyn Error>> {
     let (g, start) = (job(), Marking::new(0, 0, 0b111));
     g.check()?;
@@ -164,5 +191,5 @@ fn main() -> Result<(), Box<dyn Error>> {
     }
     the_end(marking)?;
     two_checks()?;
-    Ok(())
+    three_arms()
 }

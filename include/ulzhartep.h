@@ -4,7 +4,7 @@
  * A job is a graph of steps. People take steps in roles; some steps wait for others, and taking one makes others due, includes
  * them or excludes them. The library says whether an entry (a person, a step, a role) is allowed at a marking and what becomes of
  * the marking; it runs journals of entries, folds them into records of 65 bytes, and reads and writes jobs as sheets.
- * It also finds out whether a job can still end.
+ * It also finds out whether a job can still end, and writes the sheet of one job that it knows itself, the cabinet's.
  *
  * Steps, people, roles and actions are numbered from 0. A set is a word: number s is in it where bit s is 1, UINT64_C(1) << s.
  *
@@ -44,7 +44,7 @@ extern "C" {
  * calls have changed, and a program has to be compiled anew; the shared library's soname has both.
  */
 #define ULZ_VERSION_MAJOR 0
-#define ULZ_VERSION_MINOR 4
+#define ULZ_VERSION_MINOR 5
 #define ULZ_VERSION_PATCH 0
 
 #define ULZ_JOURNAL_BYTES 65535    /* the longest journal: 21,845 entries */
@@ -57,10 +57,10 @@ extern "C" {
 #define ULZ_STACK_BYTES 16384      /* no call takes more of a thread's stack, whatever it is given */
 
 /*
- * The numbers, of which no call gives 19 to 21. Each call names those that it can give. It gives the lowest that holds;
- * for a journal that is the lowest of the earliest entry that is not allowed. Two calls keep another order: ulz_restore
- * asks for ULZ_NOT_APPLIED, and ulz_lap for ULZ_EMPTY_LAP, after all numbers up to ULZ_ILL_FORMED and before any entry is
- * looked at.
+ * The numbers, of which no call gives 19 to 21 or 23 to 29. Each call names those that it can give. It gives the lowest
+ * that holds; for a journal that is the lowest of the earliest entry that is not allowed. Three calls keep another order:
+ * ulz_restore asks for ULZ_NOT_APPLIED, and ulz_lap for ULZ_EMPTY_LAP, after all numbers up to ULZ_ILL_FORMED and before
+ * any entry is looked at; ulz_cabinet asks for ULZ_ARMS before ULZ_ROOM.
  */
 enum {
     ULZ_ANSWERED = 0,     /* nothing is against it */
@@ -84,7 +84,8 @@ enum {
     ULZ_NOT_APPLIED = 16, /* the record is never, or the marking lacks what it needs */
     ULZ_EMPTY_LAP = 17,   /* the lap has no entry */
     ULZ_ROOM = 18,        /* the room is shorter than what would be written */
-    ULZ_STORE = 22        /* the store's length is not ULZ_MARKING_BYTES times a number from 1 to ULZ_STORE_MOST */
+    ULZ_STORE = 22,       /* the store's length is not ULZ_MARKING_BYTES times a number from 1 to ULZ_STORE_MOST */
+    ULZ_ARMS = 30         /* a mast with fewer than 2 arms or with more than 16: see "The cabinet" */
 };
 
 /* A number in words, without an end of line. */
@@ -111,6 +112,8 @@ static inline const char *ulz_text(uint64_t number) {
         "there is too little room",
         NULL, NULL, NULL,
         "the store is no whole number of markings from 1 to 2,048",
+        NULL, NULL, NULL, NULL, NULL, NULL, NULL,
+        "the number of arms is not from 2 to 16",
     };
     const char *text = number < sizeof texts / sizeof texts[0] ? texts[number] : NULL;
     return text ? text : "no number of this library";
@@ -270,7 +273,7 @@ typedef struct ulz_tracked {
     ulz_track track; /* the state afterwards; with 11 to 15 the one handed in, word for word, whatever its flag */
 } ulz_tracked;
 
-/* Of ulz_write and ulz_record_write. */
+/* Of ulz_write, ulz_cabinet and ulz_record_write. */
 typedef struct ulz_written {
     uint64_t number;
     uint64_t length; /* how many bytes of the room were written */
@@ -457,6 +460,39 @@ uint64_t ulz_read(const uint8_t *sheet, size_t length, ulz_graph *graph, ulz_mar
 
 /* Writes a sheet of six bodies into a room of this length; ULZ_SHEET_BYTES are always enough. Numbers: 2, 4, 6, 18. */
 ulz_written ulz_write(const ulz_graph *graph, ulz_marking marking, uint8_t *room, size_t length);
+
+/*
+ * ---- The cabinet ----
+ *
+ * One job need not be made by hand: that of the cabinet at a mast with 2 to 16 arms. Arm 1 is the lowest. There are
+ * arms + 2 steps, each an action of its own, and two people: person 0 holds role 0, climber, and person 1 role 1, desk.
+ *
+ *     step       what          taken by                      doing it
+ *     0          reboot        0 in role 0, or 1 in role 1   makes every check due; includes step 1; excludes all other
+ *                                                            checks, and publishing
+ *     k          check arm k   0 in role 0                   excludes step k; includes step k + 1, which is the next
+ *                                                            check, or publishing where arm k is the highest
+ *     arms + 1   publish       1 in role 1                   changes nothing but that it is done
+ *
+ * k is 1 to arms. A job begins with nothing done, every check due, and steps 0 and 1 included. No step waits for another:
+ * one whose turn has not come is excluded, and whoever takes it is refused with ULZ_EXCLUDED, if not with a lower number.
+ *
+ * So the climber goes up from arm to arm and checks each once; a reboot, which may come at any time, sends the climber back
+ * to the ground. From the last check until the next reboot the job is finished, and the desk can publish, as often as it
+ * likes. At no other time is it finished, and at no other time can anybody publish.
+ *
+ *     uint8_t sheet[312];
+ *     ulz_written written = ulz_cabinet(arms, sheet, sizeof sheet);
+ *     if (written.number == ULZ_ANSWERED && ulz_read(sheet, written.length, &g, &m) == ULZ_ANSWERED)
+ *         puts("a job to begin with");
+ */
+
+/*
+ * Writes the sheet of the cabinet's job into a room of this length. It has six bodies, as every sheet that is written, and
+ * 72 + 15 * arms bytes: 102 with 2 arms, 312 with 16. Numbers, in this order: 30, 18. So with too few arms or too many the
+ * room may have any length, 0 as well; and with any number but ULZ_ANSWERED it stays as it was.
+ */
+ulz_written ulz_cabinet(uint64_t arms, uint8_t *room, size_t length);
 
 /*
  * ---- Laps ----

@@ -11,7 +11,7 @@
 enum { ROOM = 1 << 16, PAINT = 0xa5, STEPS = 64 };
 
 static uint8_t stack[ROOM], journal[3 * 2000], sheet[ULZ_SHEET_BYTES], record[ULZ_RECORD_BYTES], out[ULZ_RECORD_BYTES];
-static uint8_t store[ULZ_STORE_MOST * ULZ_MARKING_BYTES];
+static uint8_t store[ULZ_STORE_MOST * ULZ_MARKING_BYTES], mast[312];
 static size_t sheet_length;
 static ulz_graph graph, again;
 static ulz_marking start, marking;
@@ -41,6 +41,7 @@ static void record_write(void) { number = ulz_record_write(STEPS, &sets, out, si
 static void restore(void) { number = ulz_restore(&graph, record, sizeof record, journal, sizeof journal, start).number; }
 static void reads(void) { number = ulz_read(sheet, sheet_length, &again, &marking); }
 static void writes(void) { number = ulz_write(&graph, start, sheet, sizeof sheet).number; }
+static void cabinet(void) { number = ulz_cabinet(16, mast, sizeof mast).number; }
 static void lap(void) { number = ulz_lap(&graph, start, journal, sizeof journal, journal, sizeof journal).number; }
 static void can_end(void) { number = ulz_can_end(&graph, all_due, store, sizeof store).number; }
 static void track_start(void) { number = ulz_track_start(&graph, start).number; }
@@ -54,8 +55,8 @@ static const struct {
     {"check", check}, {"ask", ask}, {"allowed_to", allowed}, {"allowed_to_someone", someone}, {"take", take},
     {"finished", finished}, {"keep", keep}, {"run", run}, {"walk", walk}, {"fold", fold}, {"join", join}, {"apply", apply},
     {"record_read", record_read}, {"record_write", record_write}, {"restore", restore}, {"write", writes}, {"read", reads},
-    {"lap", lap}, {"can_end", can_end}, {"track_start", track_start}, {"track_idle", track_idle},
-    {"track_step", track_step},
+    {"cabinet", cabinet}, {"lap", lap}, {"can_end", can_end}, {"track_start", track_start},
+    {"track_idle", track_idle}, {"track_step", track_step},
 };
 
 /* A full graph: everything responds to and includes everything, nothing waits, and person 0 may do it all. */

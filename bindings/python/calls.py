@@ -2,7 +2,7 @@
 
 import ulzhartep
 from day import CHECK, PUBLISH, REBOOT, double_mast, job, refused
-from ulzhartep import MARKING_BYTES, STORE_MOST, CanEnd, Entry, Graph, Marking, Record, Refusal, markings
+from ulzhartep import MARKING_BYTES, STORE_MOST, CanEnd, Entry, Graph, Marking, Record, Refusal, cabinet, markings
 
 
 def overflows(call, *arguments):
@@ -76,6 +76,36 @@ def stores(start):
     assert graph.can_end(start, bytearray(most)).looked == 1
 
 
+def mast(arms):
+    """The cabinet's job, made by hand."""
+    graph, publish = Graph.bare(steps=arms + 2, people=2, roles=2), arms + 1
+    checks = sum(1 << arm for arm in range(1, publish))
+    graph.responses[0], graph.includes[0], graph.excludes[0] = checks, 0b10, checks - 0b10 + (1 << publish)
+    for arm in range(1, publish):
+        graph.includes[arm], graph.excludes[arm], graph.allows[arm] = 1 << arm + 1, 1 << arm, 0b01
+    graph.allows[0], graph.allows[publish], graph.holds[:2] = 0b11, 0b10, [0b01, 0b10]
+    return graph, Marking(due=checks, included=0b11)
+
+
+def cabinets():
+    """Every mast, with as much room as it needs and a byte less; 30 comes before 18; and a job on three arms."""
+    for arms in range(2, 17):
+        sheet = cabinet(arms)
+        assert len(sheet) == 72 + 15 * arms and Graph.read(sheet) == mast(arms) and cabinet(arms, len(sheet)) == sheet
+        assert refused(cabinet, arms, len(sheet) - 1).refusal == Refusal.ROOM
+    for arms in 0, 1, 17, 256 + 2, (1 << 64) - 1:
+        assert refused(cabinet, arms).refusal == refused(cabinet, arms, 0).refusal == Refusal.ARMS
+    assert refused(cabinet, 1).text == "the number of arms is not from 2 to 16"
+    assert overflows(cabinet, -1) and overflows(cabinet, 1 << 64)
+    graph, start = Graph.read(cabinet(3))
+    climbed = b"".join(bytes(Entry(0, arm, 0)) for arm in (1, 2, 3))
+    assert [graph.finished(graph.run(start, climbed[:length])[1]) for length in (0, 3, 6, 9)] == [False] * 3 + [True]
+    assert graph.run(start, climbed + bytes(Entry(1, 4, 1))) == (4, Marking(0b11110, 0, 0b10001))
+    early = refused(graph.run, start, climbed + bytes(REBOOT) + bytes(Entry(1, 4, 1)))
+    assert (early.refusal, early.entries) == (Refusal.EXCLUDED, 4)
+    assert refused(graph.run, start, climbed[3:]).refusal == Refusal.EXCLUDED
+
+
 def waiting(start):
     """Every call that can wait, where publishing waits for all three steps and then for all but the check."""
     graph = job()
@@ -139,6 +169,7 @@ def main():
     ends(rebooted)
     turns()
     stores(start)
+    cabinets()
     waiting(start)
     assert overflows(Entry, 256, 0, 0) and overflows(Marking, 1 << 64) and overflows(ulzhartep.apply, -1, first, start)
     assert overflows(graph.allowed_to, start, 1 << 64) and overflows(graph.allowed_to, start, -1)

@@ -1,8 +1,8 @@
 """A day of the sample job: 0 reboot, 1 order check, 2 publish. After a reboot nothing is published before the check,
 also where the journal has been folded into a record and forgotten. Then the job is rewritten and cannot end any more.
-And a mast on which the order is checked at two places."""
+A mast on which the order is checked at two places. And the cabinet's job for a mast with three arms."""
 
-from ulzhartep import MARKING_BYTES, STORE_MOST, CanEnd, Entry, Graph, Marking, Refused, markings, steps
+from ulzhartep import MARKING_BYTES, STORE_MOST, CanEnd, Entry, Graph, Marking, Refused, cabinet, markings, steps
 
 REBOOT, CHECK, PUBLISH = Entry(0, 0, 0), Entry(0, 1, 0), Entry(1, 2, 1)
 
@@ -66,6 +66,24 @@ def the_end(marking):
     print_end("rewritten so that nobody may check", graph, marking, STORE_MOST)
 
 
+def three_arms():
+    """The box writes the sheet. It is published once each arm has been checked, from the ground up."""
+    why = refused(cabinet, 17)
+    print(f"cabinet with 17 arms: refused with {why.number}, {why.text}")
+    sheet = cabinet(3)
+    print(f"cabinet with 3 arms: {len(sheet)} bytes")
+
+    graph, start = Graph.read(sheet)
+    print_marking("it begins with", start)
+    publish = bytes(Entry(1, 4, 1))
+    why = refused(graph.run, start, bytes(REBOOT) + publish)
+    print(f"rebooted, publish: refused with {why.number} at entry {why.entries}, {why.text}")
+    checks = b"".join(bytes(Entry(0, arm, 0)) for arm in (1, 2, 3))
+    entries, published = graph.run(why.marking, checks + publish)
+    print(f"three checks, publish: {entries} entries taken")
+    print_marking("published", published)
+
+
 def main():
     graph, start = job(), Marking(done=0, due=0, included=0b111)
     graph.check()
@@ -107,6 +125,7 @@ def main():
     print(f"double mast, allowed to person 1: {shown(mast.allowed_to(start, 1))}")
     mast.allows[mast.labels[1]] |= 1 << 1
     print(f"the desk may check, allowed to person 1: {shown(mast.allowed_to(start, 1))}")
+    three_arms()
 
 
 if __name__ == "__main__":

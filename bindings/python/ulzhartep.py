@@ -32,7 +32,7 @@ SHEET_WRITTEN_LEAST = 64  # the shortest sheet that is written, of six bodies
 MARKING_BYTES = 24  # every marking in a store
 STORE_MOST = 2048  # the most markings that a store has place for
 
-_SONAME = "libulzhartep.so.0.4"  # a library whose blocks lie otherwise in memory has another
+_SONAME = "libulzhartep.so.0.5"  # a library whose blocks lie otherwise in memory has another
 
 
 class Refusal(enum.IntEnum):
@@ -57,6 +57,7 @@ class Refusal(enum.IntEnum):
     EMPTY_LAP = 17
     ROOM = 18
     STORE = 22
+    ARMS = 30
 
 
 TEXTS = (
@@ -81,6 +82,8 @@ TEXTS = (
     "there is too little room",
     *3 * [None],  # no call gives 19 to 21
     "the store is no whole number of markings from 1 to 2,048",
+    *7 * [None],  # nor 23 to 29
+    "the number of arms is not from 2 to 16",
 )
 
 
@@ -324,6 +327,17 @@ class Graph(_Block):
         return _answered(_library.ulz_track_step(ctypes.byref(self), track, entry)).track
 
 
+def cabinet(arms, length=312):
+    """The sheet of the cabinet's job for a mast with so many arms, 2 to 16: 72 + 15 * arms bytes. Refused with 30 where
+    there is no such mast, and otherwise with 18 where the sheet is longer than this. Graph.read makes a graph of it.
+
+    Step 0 is the reboot, steps 1 to arms are the checks of the arms, the lowest first, and step arms + 1 publishes. Person
+    0 holds role 0 and checks, person 1 holds role 1 and publishes, and both may reboot. From the start, and again from
+    every reboot on, each check can be done once, in order; then publishing is open until the next reboot."""
+    room = (ctypes.c_uint8 * length)()
+    return bytes(room[: _answered(_library.ulz_cabinet(_word(arms), room, length)).length])
+
+
 def markings(store):
     """What a store has place for, in order; the first so many are what can_end has found."""
     return [Marking.read(store[at : at + MARKING_BYTES]) for at in range(0, len(store), MARKING_BYTES)]
@@ -444,6 +458,7 @@ def _declare(library):
         ("ulz_restore", _Ran, [graph, *lent, *lent, Marking]),
         ("ulz_read", word, [*lent, graph, ctypes.POINTER(Marking)]),
         ("ulz_write", _Written, [graph, Marking, room, size]),
+        ("ulz_cabinet", _Written, [word, room, size]),
         ("ulz_lap", _Lapped, [graph, Marking, *lent, *lent]),
         ("ulz_can_end", _Ends, [graph, Marking, room, size]),
         ("ulz_track_start", _Tracked, [graph, Marking]),

@@ -1,4 +1,4 @@
-//! The 22 calls as `ulzhartep.h` declares them: the one file of the crate that has to be believed about foreign code.
+//! The 23 calls as `ulzhartep.h` declares them: the one file of the crate that has to be believed about foreign code.
 //!
 //! Markings, entries and tracks go by value, a graph or a record as a pointer to it, bytes of any number as a pointer and their
 //! length. The calls keep none of what is lent, and write only to what is lent by `&mut` or `*mut`. A call is safe where no
@@ -48,6 +48,7 @@ unsafe extern "C" {
     ) -> Ran;
     fn ulz_read(sheet: *const u8, length: usize, graph: &mut Graph, marking: &mut Marking) -> u64;
     fn ulz_write(graph: &Graph, marking: Marking, room: *mut u8, length: usize) -> Written;
+    fn ulz_cabinet(arms: u64, room: *mut u8, length: usize) -> Written;
     fn ulz_lap(
         graph: &Graph,
         marking: Marking,
@@ -109,6 +110,11 @@ pub fn read(sheet: &[u8], graph: &mut Graph, marking: &mut Marking) -> u64 {
 #[inline]
 pub fn write(graph: &Graph, marking: Marking, room: &mut [u8]) -> Written {
     unsafe { ulz_write(graph, marking, room.as_mut_ptr(), room.len()) }
+}
+
+#[inline]
+pub fn cabinet(arms: u64, room: &mut [u8]) -> Written {
+    unsafe { ulz_cabinet(arms, room.as_mut_ptr(), room.len()) }
 }
 
 #[inline]

@@ -1,5 +1,5 @@
 use crate::refusal::refused;
-use crate::{border, Allowed, Entry, Graph, Marking, Refusal, Track, Tracked};
+use crate::{border, Allowed, Entry, Graph, Marking, Refusal, Track, Tracked, Written};
 
 /// Sheets.
 impl Graph {
@@ -14,10 +14,24 @@ impl Graph {
     /// Writes a sheet of six bodies into the room, where [`SHEET_BYTES`](crate::SHEET_BYTES) are always enough, and answers how
     /// long it is.
     pub fn write(&self, marking: Marking, room: &mut [u8]) -> Result<usize, Refusal> {
-        let written = border::write(self, marking, room);
-        refused(written.number, 0)?;
-        Ok(written.length as usize)
+        written(border::write(self, marking, room))
     }
+}
+
+/// Writes the sheet of the cabinet's job for a mast with so many arms, 2 to 16, into the room, and answers how long it is:
+/// 72 + 15 * arms bytes, at most 312. [`Graph::read`] makes a graph of it.
+///
+/// Step 0 is the reboot, steps 1 to arms are the checks of the arms, the lowest first, and step arms + 1 publishes. Person
+/// 0 holds role 0 and checks, person 1 holds role 1 and publishes, and both may reboot. From the start, and again from every
+/// reboot on, each check can be done once, in order; then publishing is open until the next reboot. `ulzhartep.h` says which
+/// step does what.
+pub fn cabinet(arms: u64, room: &mut [u8]) -> Result<usize, Refusal> {
+    written(border::cabinet(arms, room))
+}
+
+fn written(Written { number, length }: Written) -> Result<usize, Refusal> {
+    refused(number, 0)?;
+    Ok(length as usize)
 }
 
 /// Rules.

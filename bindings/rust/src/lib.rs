@@ -33,6 +33,7 @@ pub use answers::{Allowed, Asked, Ending, Ends, Kept, Lapped, Moved, Ran, Tracke
 pub use answers::{ACCEPTED, NONE, REACHABLE, STARVED, UNDECIDED};
 pub use ends::{markings, CanEnd};
 pub use graph::Graph;
+pub use jobs::cabinet;
 pub use journals::{apply, join, walk, LapRefused, Passed, Stopped, Verdict};
 pub use record::Record;
 pub use refusal::Refusal;

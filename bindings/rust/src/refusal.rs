@@ -2,7 +2,7 @@ use crate::steps;
 use std::error::Error;
 use std::fmt;
 
-/// Why a call is not answered. Each has a number, 1 to 18 or 22, and words; `ulzhartep.h` says more of each.
+/// Why a call is not answered. Each has a number, 1 to 18, 22 or 30, and words; `ulzhartep.h` says more of each.
 #[derive(Clone, Copy, PartialEq, Eq, Hash, Debug)]
 pub enum Refusal {
     /// Not laid out as a sheet.
@@ -44,6 +44,8 @@ pub enum Refusal {
     Room,
     /// The bytes of a store are no whole number of markings, or place for none, or for too many.
     Store,
+    /// A mast has not from 2 to 16 arms.
+    Arms,
     /// A number that this crate does not know, of a later library.
     Other(u64),
 }
@@ -72,6 +74,7 @@ impl Refusal {
             17 => EmptyLap,
             18 => Room,
             22 => Store,
+            30 => Arms,
             number => Other(number),
         }
     }
@@ -98,21 +101,24 @@ impl Refusal {
             EmptyLap => 17,
             Room => 18,
             Store => 22,
+            Arms => 30,
             Other(number) => number,
         }
     }
 
     /// The words that `ulz_text` has for the number.
     pub fn text(self) -> &'static str {
-        let at = usize::try_from(self.number()).unwrap_or(usize::MAX).wrapping_sub(1);
-        TEXTS.get(at).copied().unwrap_or(NO_NUMBER)
+        match self.number() {
+            number @ 1..=18 => TEXTS[number as usize - 1],
+            22 => TEXTS[18],
+            30 => TEXTS[19],
+            _ => "no number of this library",
+        }
     }
 }
 
-const NO_NUMBER: &str = "no number of this library";
-
-/// The first is for 1.
-const TEXTS: [&str; 22] = [
+/// Of 1 to 18, then of 22 and 30.
+const TEXTS: [&str; 20] = [
     "not laid out as a sheet",
     "a count is out of range",
     "the bodies of the sheet do not fit its counts",
@@ -131,10 +137,8 @@ const TEXTS: [&str; 22] = [
     "the record does not apply to the marking",
     "the lap is empty",
     "there is too little room",
-    NO_NUMBER,
-    NO_NUMBER,
-    NO_NUMBER,
     "the store is no whole number of markings from 1 to 2,048",
+    "the number of arms is not from 2 to 16",
 ];
 
 impl fmt::Display for Refusal {

@@ -1,6 +1,7 @@
 //! Every call once or twice, against what the rules say of the sample job: 0 reboot, 1 order check, 2 publish.
 
-use ulzhartep::{apply, join, markings, steps, walk, CanEnd, Entry, Graph, Marking, Passed, Record, Refusal, Verdict};
+use ulzhartep::{apply, cabinet, join, markings, steps, walk};
+use ulzhartep::{CanEnd, Entry, Graph, Marking, Passed, Record, Refusal, Verdict};
 use ulzhartep::{MARKING_BYTES, SHEET_BYTES, SHEET_LEAST, SHEET_WRITTEN_LEAST, STORE_MOST};
 
 const START: Marking = Marking::new(0, 0, 0b111);
@@ -156,6 +157,64 @@ fn shortest_sheets() {
     assert_eq!((five.len(), Graph::read(&five)), (SHEET_LEAST, Ok((g, start))));
 }
 
+/// The cabinet's job, made by hand.
+fn mast(arms: usize) -> (Graph, Marking) {
+    let (mut g, publish) = (Graph::bare(arms as u64 + 2, 2, 2), arms + 1);
+    let checks = (1 << publish) - 2;
+    (g.responses[0], g.includes[0], g.excludes[0]) = (checks, 0b10, checks ^ 0b10 | 1 << publish);
+    for k in 1..=arms {
+        (g.includes[k], g.excludes[k], g.allows[k]) = (1 << (k + 1), 1 << k, 0b01);
+    }
+    (g.allows[0], g.allows[publish], g.holds[0], g.holds[1]) = (0b11, 0b10, 0b01, 0b10);
+    (g, Marking::new(0, checks, 0b11))
+}
+
+/// Every mast, in a room that is longer, as long, and a byte too short.
+#[test]
+fn cabinets() {
+    for arms in 2..=16 {
+        let (length, mut room) = (72 + 15 * arms, [0xa5; 320]);
+        assert_eq!(cabinet(arms as u64, &mut room[..length - 1]), Err(Refusal::Room));
+        assert_eq!(room, [0xa5; 320]);
+        assert_eq!(cabinet(arms as u64, &mut room), Ok(length));
+        assert_eq!((Graph::read(&room[..length]), &room[length..]), (Ok(mast(arms)), &[0xa5; 320][length..]));
+        assert_eq!(cabinet(arms as u64, &mut room[..length]), Ok(length));
+    }
+}
+
+/// 30 comes before 18, and arms are a whole word.
+#[test]
+fn no_such_masts() {
+    for arms in [0, 1, 17, 18, 64, 256 + 2, (1 << 32) + 2, u64::MAX] {
+        let mut room = [0xa5; 320];
+        assert_eq!([cabinet(arms, &mut room), cabinet(arms, &mut [])], [Err(Refusal::Arms); 2], "{arms}");
+        assert_eq!(room, [0xa5; 320]);
+    }
+}
+
+/// On three arms: publishing comes after all checks, in their order, and is lost with a reboot.
+#[test]
+fn from_the_ground_up() {
+    let mut room = [0; 117];
+    assert_eq!(cabinet(3, &mut room), Ok(117));
+    let (g, start) = Graph::read(&room).expect("a sheet");
+    let takes = |step| match step {
+        4 => [1, 4, 1],
+        _ => [0, step, 0],
+    };
+    let run = |steps: &[u8]| {
+        let ran = g.run(start, &steps.iter().flat_map(|&step| takes(step)).collect::<Vec<_>>());
+        ran.map(|passed| g.finished(passed.marking)).map_err(|stopped| (stopped.refusal, stopped.entries))
+    };
+    let excluded = |at| Err((Refusal::Excluded, at));
+    assert_eq!([run(&[]), run(&[0, 1, 2]), run(&[1, 2, 3, 0])], [Ok(Ok(false)); 3]);
+    assert_eq!([run(&[1, 2, 3]), run(&[0, 1, 2, 3, 4, 4]), run(&[1, 2, 0, 1, 2, 3])], [Ok(Ok(true)); 3]);
+    assert_eq!([run(&[4]), run(&[2]), run(&[0, 4])], [excluded(0), excluded(0), excluded(1)]);
+    assert_eq!([run(&[1, 1]), run(&[1, 3]), run(&[1, 2, 3, 0, 4])], [excluded(1), excluded(1), excluded(4)]);
+    assert_eq!(g.run(start, &[1, 1, 1]).map_err(|stopped| stopped.refusal), Err(Refusal::NotOnStep));
+    assert_eq!(g.run(start, &[0, 4, 1]).map_err(|stopped| stopped.refusal), Err(Refusal::NotHeld));
+}
+
 #[test]
 fn journals() {
     let (g, day) = (job(), journal(&[REBOOT, CHECK]));
@@ -244,20 +303,22 @@ fn tracker() {
 
 #[test]
 fn numbers() {
-    for number in 1..=23 {
+    for number in 1..=31 {
         assert_eq!(Refusal::new(number, 3).number(), number);
     }
     let text = "refused: 15 the step waits for steps that are not done, steps 1 3 7";
     assert_eq!(Refusal::Waits(0b1000_1010).to_string(), text);
     assert_eq!(
-        (Refusal::NotOnStep.text(), Refusal::Room.text(), Refusal::Store.text()),
-        (
+        [Refusal::Layout, Refusal::NotOnStep, Refusal::Room, Refusal::Store, Refusal::Arms].map(Refusal::text),
+        [
+            "not laid out as a sheet",
             "the step's action does not have this role",
             "there is too little room",
-            "the store is no whole number of markings from 1 to 2,048"
-        )
+            "the store is no whole number of markings from 1 to 2,048",
+            "the number of arms is not from 2 to 16"
+        ]
     );
-    for number in [0, 19, 20, 21, 23, u64::MAX] {
+    for number in [0, 19, 20, 21, 23, 24, 28, 29, 31, u64::MAX] {
         assert_eq!(Refusal::Other(number).text(), "no number of this library");
     }
 }

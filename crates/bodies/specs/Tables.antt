@@ -1,14 +1,20 @@
 -- Tables made row by row. Assumes nothing.
-use Prim.Native.Nat.{ℕ, zero, suc, _+_, _≤_, _<_}
+use Prim.Native.Nat.{ℕ, zero, suc, _+_, _^_, _≤_, _<_}
 use mathlib.Core.Path.{_≡_, refl, sym, ap, ap₂, _∙_, subst}
 use mathlib.Core.List.{List, [], _∷_, _++_}
+use mathlib.Core.Bool.{Bool, true, cond}
 use native.Mathlib.Nat.{not-suc-le-zero}
 use native.Mathlib.Numerals.{add-one}
 use native.Mathlib.Omega.{arith}
 use native.Mathlib.Decide.{decLt}
 use lib.ListN.{length, set, take, length-append, List·getD-append, List·getD-eq-default}
 use lib.Seq.{sets, getD-at, ext-getD, length-take-le, take-suc, take-all}
-use Rattle.tables.specs.Tables.{row}
+use lib.Dec.{ltb}
+use borrow.Author.Tests.{lt-ltb, le-ltb}
+use Rattle.sets.specs.Sets.{within}
+use Rattle.sets.specs.Laws.{every-of}
+use Rattle.tables.specs.Tables.{row, tableAt, keeps, labelsFit}
+use Rattle.tables.specs.Laws.{row-at, rows-at}
 use Rattle.numbers.specs.Numbers.{Spliced}
 use Rattle.numbers.specs.Laws.{sets-append}
 
@@ -51,6 +57,45 @@ pub tabled-rows : (k : ℕ) (t : List ℕ) → length t ≡ k → tabled k (row 
 tabled-rows k t e =
     let n : length (tabled k (row t)) ≡ k = length-tabled k (row t) in
     ext-getD 0 (tabled k (row t)) t (n ∙ sym e) (λ i h. row-tabled k (row t) i (omega arith))
+
+-- a part of a table that was made row by row is made so too
+pub table-tabled : (at n k : ℕ) (f : ℕ → ℕ) → at + n ≤ k → tableAt at n (tabled k f) ≡ tabled n (λ s. f (at + s))
+table-tabled at n k f h =
+    let all : length (tabled k f) ≡ k = length-tabled k f in
+    let some : length (tableAt at n (tabled k f)) ≡ n = rows-at at n (tabled k f) (omega arith) in
+    ext-getD 0 (tableAt at n (tabled k f)) (tabled n (λ s. f (at + s))) (some ∙ sym (length-tabled n (λ s. f (at + s))))
+    (λ i l.
+    let low : i < n = omega arith in
+    row-at at n (tabled k f) i low ∙ row-tabled k f (at + i) (omega arith) ∙ sym (row-tabled n (λ s. f (at + s)) i low))
+
+-- what is asked of a table, row by row
+pub keeps-tabled : (count limit k : ℕ) (f : ℕ → ℕ) → ((i : ℕ) → i < count → f i < 2 ^ limit) → ((i : ℕ) → count ≤ i → f i ≡ 0)
+    → keeps count limit (tabled k f) ≡ true
+unfolding keeps
+keeps-tabled count limit k f low gone =
+    every-of (length (tabled k f)) (λ i. within (cond (ltb i count) limit 0) (row (tabled k f) i)) (λ i h.
+    let here : row (tabled k f) i ≡ f i = row-tabled k f i (let n : length (tabled k f) ≡ k = length-tabled k f in omega arith) in
+    ap (λ (x : ℕ). within (cond (ltb i count) limit 0) x) here ∙ go i (decLt i count))
+  where
+    go : (i : ℕ) → Dec (i < count) → within (cond (ltb i count) limit 0) (f i) ≡ true
+    go i (yes h) = ap (λ (b : Bool). within (cond b limit 0) (f i)) (lt-ltb i count h) ∙ lt-ltb (f i) (2 ^ limit) (low i h)
+    go i (no h) =
+        let out : count ≤ i = omega arith in
+        ap (λ (b : Bool). within (cond b limit 0) (f i)) (le-ltb i count out) ∙ ap (within 0) (gone i out)
+
+pub labels-tabled : (steps actions k : ℕ) (f : ℕ → ℕ) → ((i : ℕ) → i < steps → f i < actions) → ((i : ℕ) → steps ≤ i → f i ≡ 0)
+    → labelsFit steps actions (tabled k f) ≡ true
+unfolding labelsFit
+labels-tabled steps actions k f low gone =
+    every-of (length (tabled k f)) (λ i. ltb (row (tabled k f) i) (cond (ltb i steps) actions 1)) (λ i h.
+    let here : row (tabled k f) i ≡ f i = row-tabled k f i (let n : length (tabled k f) ≡ k = length-tabled k f in omega arith) in
+    ap (λ (x : ℕ). ltb x (cond (ltb i steps) actions 1)) here ∙ go i (decLt i steps))
+  where
+    go : (i : ℕ) → Dec (i < steps) → ltb (f i) (cond (ltb i steps) actions 1) ≡ true
+    go i (yes h) = ap (λ (b : Bool). ltb (f i) (cond b actions 1)) (lt-ltb i steps h) ∙ lt-ltb (f i) actions (low i h)
+    go i (no h) =
+        let out : steps ≤ i = omega arith in
+        ap (λ (b : Bool). ltb (f i) (cond b actions 1)) (le-ltb i steps out) ∙ ap (λ (x : ℕ). ltb x 1) (gone i out)
 
 -- ---- the loops that fill a block from `at` on
 

@@ -35,8 +35,9 @@ fn part_at(call: Call, k: usize) -> Number {
     )
 }
 
-fn count_in(call: Call) -> Stating {
-    let n = number_at(call, 0, b"N is a number, digits 0 to 9 alone");
+// It stands before the files.
+fn count_in(call: Call, what: &[u8]) -> Stating {
+    let n = number_at(call, 0, what);
     match n {
         Number::Is(count) => Stating::Count(count),
         Number::None => Stating::Wrong,
@@ -91,7 +92,8 @@ fn markings_in(call: Call) -> Stating {
 pub fn stated_in(n: Numbers, call: Call) -> Stating {
     match n {
         Numbers::None => Stating::Nothing,
-        Numbers::Count => count_in(call),
+        Numbers::Count => count_in(call, b"N is a number, digits 0 to 9 alone"),
+        Numbers::Arms => count_in(call, b"ARMS is a number, digits 0 to 9 alone"),
         Numbers::Entry => entry_in(call),
         Numbers::Person => person_in(call),
         Numbers::Markings => markings_in(call),

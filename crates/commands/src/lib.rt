@@ -6,6 +6,7 @@ pub enum Command {
     Check,
     Show,
     Write,
+    Cabinet,
     May,
     Ask,
     Take,
@@ -26,11 +27,12 @@ pub enum Command {
     Unknown,
 }
 
-// The numbers among the operands: none; N before the files; or an entry, a person or the size of a store behind them, where else the
-// file to write stands.
+// The numbers among the operands: none; N or the arms of a mast before the files; or an entry, a person or the size of a store behind
+// them, where else the file to write stands.
 pub enum Numbers {
     None,
     Count,
+    Arms,
     Entry,
     Person,
     Markings,

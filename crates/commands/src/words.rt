@@ -47,6 +47,7 @@ pub fn shape_of(c: Command) -> Shape {
         Command::Check => shaped(Numbers::None, 1, 1, 1),
         Command::Show => shaped(Numbers::None, 1, 1, 1),
         Command::Write => shaped(Numbers::None, 1, 2, 2),
+        Command::Cabinet => shaped(Numbers::Arms, 1, 2, 2),
         Command::May => starting(shaped(Numbers::Person, 2, 2, 3)),
         Command::Ask => starting(shaped(Numbers::Entry, 2, 5, 5)),
         Command::Take => starting(shaped(Numbers::Entry, 2, 5, 5)),

@@ -15,6 +15,7 @@ ghost use Rattle.spelling.specs.Bytes.{theReading, roomOf};
 ghost use Rattle.folding.specs.Answers.{theFold, theRestoring};
 ghost use Rattle.reading.specs.Reading.{firstOf};
 ghost use Rattle.sheet.specs.Sheet.{readVerdict, ifClear, blockRead, theWritten, roomAfter, numberOfWritten, lengthOfWritten};
+ghost use Rattle.cabinet.specs.Cabinet.{theCabinet, cabinetAfter};
 ghost use Rattle.deadend.specs.DeadEnd.{theEnds, storeAfter, numberOfEnds, verdictOfEnds, fewestOfEnds, lookedOfEnds};
 ghost use Rattle.tracker.specs.Tracker.{theStart, theIdle, theStep, numberOfTracked, waitingOfTracked};
 ghost use Rattle.answers.specs.Values.{finishedOfEnding, endedOfWalked, lengthOfSpelling};
@@ -285,6 +286,17 @@ pub extern "C" fn ulz_write<'a, 'b>(g: &'a Job, m: Marking, room: &'b mut [u8]) 
     ensures { λ r. ⌜ now (room .exit) ≡ roomAfter (graphOf (now (g .entry))) m (now (room .entry)) ⌝ }
 {
     let o = sheet::write(g, m, room);
+    told::written(o)
+}
+
+// The sheet of the cabinet's job. Refusals 30, 18.
+#[no_mangle]
+pub extern "C" fn ulz_cabinet(arms: u64, room: &mut [u8]) -> Written
+    ensures { λ r. ⌜ r .number ≡ numberOfWritten (theCabinet arms (length (now (room .entry)))) ⌝ }
+    ensures { λ r. ⌜ r .length ≡ lengthOfWritten (theCabinet arms (length (now (room .entry)))) ⌝ }
+    ensures { λ r. ⌜ now (room .exit) ≡ cabinetAfter arms (now (room .entry)) ⌝ }
+{
+    let o = cabinet::write(arms, room);
     told::written(o)
 }
 

@@ -12,10 +12,10 @@ use Rattle.rules.specs.Graph.{Graph, graphVerdict}
 use Rattle.moves.specs.declared.Marking.{Marking}
 use Rattle.moves.specs.declared.Entry.{Entry}
 use Rattle.moves.specs.declared.Refusal.{Refusal}
-use Rattle.moves.specs.declared.Refusal.the-variants.{NotApplied}
+use Rattle.moves.specs.declared.Refusal.the-variants.{Length, Outside, NotApplied}
 use Rattle.moves.specs.declared.Verdict.{Verdict}
 use Rattle.moves.specs.declared.Move.{Move}
-use Rattle.moves.specs.Move.{within1to, markingFits}
+use Rattle.moves.specs.Move.{within1to, markingFits, noMarking}
 use Rattle.rules.specs.Answers.{entryMove}
 use Rattle.tables.specs.Laws.{Counted}
 use Rattle.rules.specs.Laws.{clear-counts}
@@ -26,7 +26,7 @@ use Rattle.journal.specs.Journal.{entries, lengthFits}
 use Rattle.journal.specs.Run.{goOn, theRun}
 use Rattle.journal.specs.Inner.{runOn}
 use Rattle.journal.specs.Laws.{fits-threes, entries-append, run-graph, run-length, run-inside}
-use Rattle.runs.specs.Runs.{andThen, further, ended-passes, journals-append}
+use Rattle.runs.specs.Runs.{andThen, further, Passes, passes-both, ended-passes, journals-append}
 use Rattle.records.specs.declared.Record.{Record}
 use Rattle.records.specs.declared.Recorded.{Recorded}
 use Rattle.records.specs.declared.Applied.{Applied}
@@ -39,7 +39,7 @@ use Rattle.folding.specs.Fold.{foldOf}
 use Rattle.folding.specs.Effect.{movedTo, endOfAll}
 use Rattle.folding.specs.Laws.{fold-well-formed, acts-fold, fold-append}
 use Rattle.folding.specs.Answers.{theFold, theRestoring}
-use Rattle.folding.specs.Answered.{fold-graph, fold-length, fold-clear, restore-graph, restore-length, restore-on}
+use Rattle.folding.specs.Answered.{fold-graph, fold-length, fold-clear, restore-graph, restore-length, restore-outside, restore-on}
 
 -- ---- a fold tells what the run does
 
@@ -179,3 +179,28 @@ restore-appends g a b p m ea long = journals-append g m a b (folding g a p ea .l
     go : (v : Ran) → theRun g m a ≡ v → andThen v (λ x n. further n (theRun g x b)) ≡ andThen v (λ x n. further n (theRestoring g p b m))
     go (Ran.Ended x n) e = ap (further n) (sym (restore-ended g a b p m x n ea e))
     go (Ran.Stopped k x r) e = refl
+
+-- whatever is passed after a record was passed by the journal that it is of, and then by the rest
+pub restore-passes : (g : Graph) (a b : List ℕ) (p : Record) (m x : Marking) (n : ℕ) → theFold g a ≡ Recorded.Made p
+    → theRestoring g p b m ≡ Ran.Ended x n
+    → Passes g m (entries a ++ entries b) x
+restore-passes g a b p m x n ea ended = go (theRun g m a) refl
+  where
+    clear : graphVerdict g ≡ Verdict.Clear
+    clear = folding g a p ea .clear
+
+    stopped : {A : Type 0} (k : ℕ) (y : Marking) (q : Refusal) → theRestoring g p b m ≡ Ran.Stopped k y q → A
+    stopped k y q e =
+        absurd (let s : Ran.Stopped k y q ≡ Ran.Ended x n = sym e ∙ ended in let z : _≡_ {A = ℕ} 0 1 = cc in let w : ⊥ = omega arith in w)
+
+    refused : {A : Type 0} (k : ℕ) (y : Marking) (q : Refusal) → theRun g m a ≡ Ran.Stopped k y q → (l f : Bool) → lengthFits b ≡ l
+        → markingFits (g .steps) m ≡ f → A
+    refused k y q e false f u v = stopped 0 noMarking Length (restore-length g p b m clear u)
+    refused k y q e true false u v = stopped 0 noMarking Outside (restore-outside g p b m clear u v)
+    refused k y q e true true u v = stopped 0 m NotApplied (restore-stopped g a b p m y k q ea v u e)
+
+    go : (v : Ran) → theRun g m a ≡ v → Passes g m (entries a ++ entries b) x
+    go (Ran.Ended y k) e =
+        passes-both g m y x (entries a) (entries b) (ended-passes g m y k a e .2)
+        (ended-passes g y x n b (sym (restore-ended g a b p m y k ea e) ∙ ended) .2)
+    go (Ran.Stopped k y q) e = refused k y q e (lengthFits b) (markingFits (g .steps) m) refl refl

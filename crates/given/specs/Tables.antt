@@ -1,5 +1,6 @@
 -- A call that tests its table and nothing else gives a number exactly if it is the lowest that holds: the tables go up. A line for each
--- such call; laps, runs and restores, whose entries come after the table, stand in `Entries`. Assumes nothing.
+-- such call; laps, runs and restores, whose entries come after the table, stand in `Entries`, and what reads or writes a sheet, the
+-- cabinet's too, with the sheets. Assumes nothing.
 use Prim.Native.Nat.{ℕ, zero, suc, _<_}
 use mathlib.Core.Path.{_≡_, refl, sym, subst}
 use mathlib.Core.Logic.{_↔_}

@@ -16,6 +16,7 @@ fn say_commands(page: &mut Page) {
     say_command(page, Command::Check);
     say_command(page, Command::Show);
     say_command(page, Command::Write);
+    say_command(page, Command::Cabinet);
     say_command(page, Command::May);
     say_command(page, Command::Ask);
     say_command(page, Command::Take);
@@ -36,7 +37,7 @@ fn say_commands(page: &mut Page) {
 }
 
 pub fn say_version(page: &mut Page) {
-    say(page, b"ulz 0.4.0\n");
+    say(page, b"ulz 0.5.0\n");
 }
 
 pub fn say_help(page: &mut Page) {

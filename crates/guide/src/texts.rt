@@ -8,6 +8,10 @@ pub fn say_phrase(page: &mut Page, c: Command) {
         Command::Check => say(page, b"is the sheet in order?\n"),
         Command::Show => say(page, b"what the sheet holds, in words\n"),
         Command::Write => say(page, b"writes the sheet of what was read\n"),
+        Command::Cabinet => say(
+            page,
+            b"writes the sheet of the cabinet's own job, for a mast with ARMS arms\n",
+        ),
         Command::May => say(page, b"who may take which step after the journal\n"),
         Command::Ask => say(
             page,
@@ -70,6 +74,16 @@ fn say_write_page(page: &mut Page) {
         b"Reads the sheet, of six bodies or of five, and writes the graph and the first marking that it holds, in six: the same bytes,\n\
           where it had six. In five bodies every step is its own action.\n\
           Refusals: 1 to 6.\n",
+    );
+}
+
+fn say_cabinet_page(page: &mut Page) {
+    say(
+        page,
+        b"Step 0 reboots, step K checks arm K, of which arm 1 is the lowest, and step ARMS + 1 publishes. At the start, and again after\n\
+          each reboot, every check is due and only the lowest is included; a check makes way for the next one, the last for publishing.\n\
+          Person 0, role 0, is the climber and checks; person 1, role 1, sits at the desk and publishes; either of them may reboot.\n\
+          Refusals: 30 (ARMS is not 2 to 16).\n",
     );
 }
 
@@ -239,6 +253,7 @@ pub fn say_more(page: &mut Page, c: Command) {
         Command::Check => say_check_page(page),
         Command::Show => say_show_page(page),
         Command::Write => say_write_page(page),
+        Command::Cabinet => say_cabinet_page(page),
         Command::May => say_may_page(page),
         Command::Ask => say_ask_page(page),
         Command::Take => say_take_page(page),

@@ -36,10 +36,11 @@ fn say_high_words(page: &mut Page, number: u8) {
         16 => say(page, b"the record does not apply to the marking"),
         17 => say(page, b"the lap is empty"),
         18 => say(page, b"there is too little room"),
-        _ => say(
+        22 => say(
             page,
             b"the store is no whole number of markings from 1 to 2,048",
         ),
+        _ => say(page, b"the number of arms is not from 2 to 16"),
     }
 }
 

@@ -5,7 +5,7 @@ use mathlib.Core.Bool.{Bool, cond}
 use Rattle.moves.specs.declared.Refusal.{Refusal}
 use Rattle.moves.specs.declared.Refusal.the-variants.{Layout, Counts, Bodies, Beyond, Arrows, Both, Length, Outside, NoRank}
 use Rattle.moves.specs.declared.Refusal.the-variants.{IllFormed, Unknown, NotHeld, NotOnStep, Excluded, Waits, NotApplied, EmptyLap}
-use Rattle.moves.specs.declared.Refusal.the-variants.{Room, Store}
+use Rattle.moves.specs.declared.Refusal.the-variants.{Room, Store, Arms}
 use Rattle.moves.specs.declared.Told.{Told}
 use Rattle.moves.specs.declared.Verdict.{Verdict}
 
@@ -30,6 +30,7 @@ numberOf NotApplied = 16
 numberOf EmptyLap = 17
 numberOf Room = 18
 numberOf Store = 22
+numberOf Arms = 30
 
 -- the set that goes with a refusal: 15 gives the steps that are waited for, every other one the empty set
 unfoldable pub waitingOf : Refusal → ℕ
@@ -52,6 +53,7 @@ waitingOf NotApplied = 0
 waitingOf EmptyLap = 0
 waitingOf Room = 0
 waitingOf Store = 0
+waitingOf Arms = 0
 
 -- both together
 unfoldable pub toldOf : Refusal → Told

@@ -54,6 +54,7 @@ pub enum Refusal {
     EmptyLap,
     Room,
     Store,
+    Arms,
 }
 
 // Nothing against the input, or the first refusal that holds.
@@ -159,6 +160,10 @@ pub fn tell(r: Refusal) -> Told
         },
         Refusal::Store => Told {
             number: 22,
+            waiting: 0,
+        },
+        Refusal::Arms => Told {
+            number: 30,
             waiting: 0,
         },
     }

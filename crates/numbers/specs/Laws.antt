@@ -153,3 +153,16 @@ put-more l to left x h =
 pub put-done : (l : List ℕ) (to left x : ℕ) → left ≤ 0 → sets l to (bytes left x) ≡ l
 unfolding bytes
 put-done l to left x h = ap (λ (k : ℕ). sets l to (bytes k x)) (let z : left ≡ 0 = omega arith in z)
+
+-- ---- lists of bytes
+
+pub none-bytes : Bytes []
+none-bytes i = lit< tt
+
+pub more-bytes : (x : ℕ) (s : List ℕ) → x < 256 → Bytes s → Bytes (x ∷ s)
+more-bytes x s h b zero = h
+more-bytes x s h b (suc i) = b i
+
+pub append-bytes : (s t : List ℕ) → Bytes s → Bytes t → Bytes (s ++ t)
+append-bytes [] t b c = c
+append-bytes (x ∷ s) t b c = more-bytes x (s ++ t) (b 0) (append-bytes s t (λ i. b (suc i)) c)

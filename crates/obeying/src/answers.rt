@@ -16,9 +16,9 @@ use output::status::Answer;
 use rules::Job;
 use rules::WORDS;
 
-// What to answer: the command with its N, its entry, its people or the markings that its store has room for, the arguments that name its
-// files and the marking to start at, and the file to write. A journal that is added to is both, and none that is read where it is not
-// there yet.
+// What to answer: the command with its N or its arms, its entry, its people or the markings that its store has room for, the arguments
+// that name its files and the marking to start at, and the file to write. A journal that is added to is both, and none that is read where
+// it is not there yet.
 pub struct Task {
     pub command: Command,
     pub number: u64,
@@ -197,6 +197,7 @@ pub fn give(page: &mut Page, t: Task, a: &[u8], b: &[u8], c: &[u8], start: &[u8]
     let o = t.target;
     let command = t.command;
     match command {
+        Command::Cabinet => showing::cabinets::write(page, t.number, o),
         Command::Join => recording::folds::join(page, t.first, t.second, t.number, a, b, o),
         Command::Apply => apply(page, t, a, b),
         Command::Record => recording::folds::show(page, t.first, a),

@@ -104,7 +104,7 @@ fn task_of(command: Command, s: Shape, call: Call, o: Stating) -> Task {
     }
 }
 
-// The inputs stand behind N.
+// The inputs stand behind the number.
 fn numbered(mut t: Task, number: u64) -> Task {
     t.number = number;
     t.first = t.second;

@@ -1,20 +1,20 @@
 -- A job with its first marking has exactly one sheet of six bodies: a list of bytes with these says them if and only if it is what is
 -- written of them. Every part of a sheet is made of numbers as bytes, and of arrows whose kinds and steps are below 64. Assumes that a
 -- block has 404 words.
-use Prim.Native.Nat.{ℕ, zero, suc, _+_, _/_, _%_, _≤_, _<_}
+use Prim.Native.Nat.{ℕ, zero, suc, _+_, _/_, _%_, _≤_}
 use mathlib.Core.Path.{_≡_, sym, ap, _∙_, subst}
 use mathlib.Core.Logic.{_↔_}
 use mathlib.Core.List.{List, [], _∷_, _++_, map}
 use mathlib.Core.Bool.{Bool, true, false}
 use native.Mathlib.Omega.{arith}
 use lib.ListN.{length, getD}
-use lib.Dec.{lit<}
 use Rattle.moves.specs.declared.Marking.{Marking}
 use Rattle.moves.specs.declared.Verdict.{Verdict}
 use Rattle.moves.specs.First.{first}
 use Rattle.tables.specs.Tables.{row}
 use Rattle.rules.specs.Graph.{Graph, graphOf}
 use Rattle.numbers.specs.Numbers.{bytes, Bytes}
+use Rattle.numbers.specs.Laws.{none-bytes, more-bytes, append-bytes}
 use Rattle.arrows.specs.Arrows.{spelt, held, arrowAt, keptIf, listed, arrowsOf}
 use Rattle.layout.specs.Layout.{contents, joined, start, front}
 use Rattle.bodies.specs.Bodies.{rowsBody}
@@ -25,17 +25,6 @@ use Rattle.rounds.specs.Read.{read-written}
 use Rattle.rounds.specs.Write.{sheet-six, one-sheet}
 
 -- ---- what is written is bytes
-
-none-bytes : Bytes []
-none-bytes i = lit< tt
-
-more-bytes : (x : ℕ) (s : List ℕ) → x < 256 → Bytes s → Bytes (x ∷ s)
-more-bytes x s h b zero = h
-more-bytes x s h b (suc i) = b i
-
-append-bytes : (s t : List ℕ) → Bytes s → Bytes t → Bytes (s ++ t)
-append-bytes [] t b c = c
-append-bytes (x ∷ s) t b c = more-bytes x (s ++ t) (b 0) (append-bytes s t (λ i. b (suc i)) c)
 
 number-is-bytes : (w x : ℕ) → Bytes (bytes w x)
 unfolding bytes

@@ -102,6 +102,21 @@ passes-run g m m′ k (e ∷ rest) p =
     ∙ passes-run g (p .0) m′ (k + 1) rest (p .2)
     ∙ ap (Ran.Ended m′) (let z : k + 1 + length rest ≡ k + suc (length rest) = omega arith in z)
 
+-- entries in two parts: all pass exactly if the first do, and the second from where those end
+pub passes-parts : (g : Graph) (m m′ : Marking) (a c : List Entry) → Passes g m (a ++ c) m′
+    → (between : Marking) × Passes g m a between × Passes g between c m′
+unfolding Passes
+passes-parts g m m′ [] c p = (m, refl, p)
+passes-parts g m m′ (e ∷ a) c p =
+    let rest = passes-parts g (p .0) m′ a c (p .2) in
+    (rest .0, (p .0, p .1, rest .1), rest .2)
+
+pub passes-both : (g : Graph) (m between m′ : Marking) (a c : List Entry) → Passes g m a between → Passes g between c m′
+    → Passes g m (a ++ c) m′
+unfolding Passes
+passes-both g m between m′ [] c p q = subst (λ (x : Marking). Passes g x c m′) (sym p) q
+passes-both g m between m′ (e ∷ a) c p q = (p .0, p .1, passes-both g (p .0) between m′ a c (p .2) q)
+
 -- a run that stops stops at the first entry not allowed
 pub run-stops : (g : Graph) (m m′ : Marking) (k n : ℕ) (r : Refusal) (es : List Entry) → graphVerdict g ≡ Verdict.Clear
     → Inside (g .steps) m
@@ -171,6 +186,12 @@ run-within g m k (e ∷ rest) clear i = go (theMove g m e) refl (λ next. run-wi
     go (Move.Moved next) q more =
         more next (entry-inside g m next e (clear-sound g clear) i (sym (move-inside g m e clear (inside-fits (g .steps) m i)) ∙ q))
     go (Move.Refused back r) q more = i
+
+pub passes-within : (g : Graph) (m m′ : Marking) (es : List Entry) → graphVerdict g ≡ Verdict.Clear → Inside (g .steps) m
+    → Passes g m es m′ → Inside (g .steps) m′
+unfolding markingOfRun
+passes-within g m m′ es clear i p =
+    subst (λ (r : Ran). Inside (g .steps) (markingOfRun r)) (passes-run g m m′ 0 es p) (run-within g m 0 es clear i)
 
 -- ---- the same of a journal
 

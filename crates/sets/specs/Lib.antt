@@ -4,3 +4,4 @@ pub mod Laws
 pub mod Digits
 pub mod Later
 pub mod Ranges
+pub mod Spans

@@ -28,6 +28,10 @@ meet a b = bitAnd a b
 abbrev pub minus : ℕ → ℕ → ℕ
 minus a b = bitXor a (bitAnd a b)
 
+-- the steps from a up to c, without c
+abbrev pub span : ℕ → ℕ → ℕ
+span a c = minus (full c) (full a)
+
 -- no step is in x
 abbrev pub empty : ℕ → Bool
 empty x = eqb x 0

@@ -1,7 +1,10 @@
 -- The laws of truth values. Each is tried at its cases. Assumes nothing.
+use Prim.Native.Nat.{ℕ}
 use mathlib.Core.Path.{_≡_, refl, sym, ap, ap₂}
 use mathlib.Core.Logic.{_⊎_, inl, inr}
 use mathlib.Core.Bool.{Bool, true, false, _&&_, _||_, false≢true}
+use lib.Dec.{eqb}
+use borrow.Author.Tests.{eqb-true, eqb-false}
 
 pub or-and : (a b c : Bool) → ((a || b) && c) ≡ ((a && c) || (b && c))
 or-and true true true = refl
@@ -69,3 +72,11 @@ or-second false e = e
 pub or-split : (a b : Bool) (G : Type 0) → (a || b) ≡ true → (a ≡ true → G) → (b ≡ true → G) → G
 or-split true b G e f g = f refl
 or-split false b G e f g = g e
+
+-- equal or not, by the test
+pub decEq : (a b : ℕ) → Dec (a ≡ b)
+decEq a b = go (eqb a b) refl
+  where
+    go : (t : Bool) → eqb a b ≡ t → Dec (a ≡ b)
+    go true e = yes (eqb-true a b e)
+    go false e = no (eqb-false a b e)

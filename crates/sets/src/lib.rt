@@ -1,7 +1,7 @@
 // Sets of steps, held in a `u64`: step s is bit s.
 ghost use mathlib.Core.Path.{_≡_};
 ghost use Prim.Native.Nat.{ℕ, _<_, _≤_};
-ghost use Rattle.sets.specs.Sets.{has, single, union, meet, minus, subset, within, full, lowest};
+ghost use Rattle.sets.specs.Sets.{has, single, union, meet, minus, subset, within, full, span, lowest};
 
 // Is step s in x?
 pub fn has(x: u64, s: u8) -> bool
@@ -52,6 +52,14 @@ pub fn full(n: u64) -> u64
     }
     let top = single((n - 1) as u8);
     top + (top - 1)
+}
+
+// The steps from a up to c, without c.
+pub fn span(a: u64, c: u64) -> u64
+    requires { ⌜ (a ≤ 64) × (c ≤ 64) ⌝ }
+    ensures { λ r. ⌜ r ≡ span a c ⌝ }
+{
+    minus(full(c), full(a))
 }
 
 // Are all steps of x below n?

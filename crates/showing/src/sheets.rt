@@ -35,18 +35,21 @@ pub fn show(page: &mut Page, g: &Job, m: Marking) -> Answer {
     say_ending(page, rules::finished(g, m), m)
 }
 
+// The sheet to its file.
+pub fn keep(page: &mut Page, sheet: &[u8], t: Target) -> Answer {
+    if !store_to(t, sheet) {
+        return Answer::Failed;
+    }
+    say_wrote(page, sheet.len() as u64);
+    Answer::Answered
+}
+
 // The sheet of what was read; `at` names it.
 pub fn write(page: &mut Page, g: &Job, m: Marking, t: Target, at: usize) -> Answer {
     let mut room = io::large_buffer();
     let w = sheet::write(g, m, &mut room);
     match w {
-        Written::Length(n) => {
-            if !store_to(t, front(&room, n)) {
-                return Answer::Failed;
-            }
-            say_wrote(page, n as u64);
-            Answer::Answered
-        }
+        Written::Length(n) => keep(page, front(&room, n), t),
         Written::Refused(r) => say_refused(page, at, r),
     }
 }

@@ -15,7 +15,7 @@ use Rattle.moves.specs.declared.Move.{Move}
 use Rattle.moves.specs.declared.Refusal.{Refusal}
 use Rattle.moves.specs.declared.Refusal.the-variants.{Layout, Counts, Bodies, Beyond, Arrows, Both, Length, Outside, NoRank}
 use Rattle.moves.specs.declared.Refusal.the-variants.{IllFormed, Unknown, NotHeld, NotOnStep, Excluded, Waits, NotApplied, EmptyLap}
-use Rattle.moves.specs.declared.Refusal.the-variants.{Room, Store}
+use Rattle.moves.specs.declared.Refusal.the-variants.{Room, Store, Arms}
 use Rattle.moves.specs.declared.Verdict.{Verdict}
 use Rattle.moves.specs.First.{Line, first, numberOf, waitingOf, numberOfVerdict}
 use Rattle.moves.specs.Move.{waitsFor, markingFits, numberOfAsked, waitingOfAsked, numberOfMove, waitingOfMove}
@@ -125,6 +125,7 @@ waiting-none NotApplied f = refl
 waiting-none EmptyLap f = refl
 waiting-none Room f = refl
 waiting-none Store f = refl
+waiting-none Arms f = refl
 
 -- a refusal that is 15 only as the entry's own tells what the entry's step waits for
 pub refusal-tells : (g : Graph) (m : Marking) (e : Entry) (r : Refusal)

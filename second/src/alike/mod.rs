@@ -1,6 +1,7 @@
 //! Two programs with the same commands, side by side over sheets with their journals, markings and records.
 
 mod asking;
+mod cabinet;
 pub(crate) mod call;
 mod ends;
 mod entries;
@@ -32,6 +33,7 @@ pub fn alike(ulz: &Path, second: &Path, jobs: &Jobs, work: &Path) -> Result<Repo
     sheets::play(&work.join("sheets"), &mut report).map_err(|why| format!("sheets alone: {why}"))?;
     entries::play(&work.join("entries"), &mut report).map_err(|why| format!("entries after journals: {why}"))?;
     ends::play(&work.join("ends"), &mut report).map_err(|why| format!("jobs that can end or cannot: {why}"))?;
+    cabinet::play(&work.join("cabinet"), &mut report).map_err(|why| format!("masts and their sheets: {why}"))?;
     uses::play(&work.join("uses"), &mut report).map_err(|why| format!("right and wrong use: {why}"))?;
     Ok(report)
 }

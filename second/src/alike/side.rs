@@ -31,7 +31,7 @@ pub enum Complaint {
 }
 
 /// How the lines end whose words are fixed.
-const FIXED: [&str; 8] = [
+const FIXED: [&str; 9] = [
     ": exists already; --force writes over it",
     ": is read by this call, and is not written over",
     ": is there and is no ordinary file",
@@ -39,6 +39,7 @@ const FIXED: [&str; 8] = [
     ": a marking has 24 bytes",
     ": a person, step or role is a number, digits 0 to 9 alone",
     ": MARKINGS is a number, digits 0 to 9 alone",
+    ": ARMS is a number, digits 0 to 9 alone",
     ": no marking lets this journal pass, nothing is written; --never writes the record that says so",
 ];
 

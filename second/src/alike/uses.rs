@@ -12,10 +12,11 @@ use std::os::unix::ffi::OsStrExt;
 use std::path::{Path, PathBuf};
 
 /// What each command takes; a capital letter stands for a file of the job.
-const USES: [&str; 20] = [
+const USES: [&str; 21] = [
     "check S",
     "show S",
     "write S OUT",
+    "cabinet 5 OUT",
     "may S J",
     "may S J 0",
     "ask S J 0 0 0",

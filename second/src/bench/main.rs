@@ -1,6 +1,7 @@
 //! `bench`: one line per call: name, nanoseconds ours, nanoseconds peer, ratio. Each is the least of many rounds in which the
 //! two take turns, on the same inputs and with the same answers.
 
+mod cabinet;
 mod count;
 mod ends;
 mod inputs;
@@ -22,4 +23,5 @@ fn main() {
     laps::run();
     tracker::run();
     ends::run();
+    cabinet::run();
 }

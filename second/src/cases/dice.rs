@@ -1,6 +1,7 @@
 /// Random numbers by splitmix64.
 pub struct Dice {
     state: u64,
+    case: u64,
 }
 
 /// How many of a set's possible members are in it.
@@ -20,7 +21,12 @@ pub enum Density {
 impl Dice {
     /// Each case of a seed has dice of its own, so that it can be made again without those before it.
     pub fn new(seed: u64, case: u64) -> Self {
-        Dice { state: mix(mix(seed) ^ case) }
+        Dice { state: mix(mix(seed) ^ case), case }
+    }
+
+    /// Which case of the seed it is, for what is gone through one after the other.
+    pub fn case(&self) -> u64 {
+        self.case
     }
 
     pub fn word(&mut self) -> u64 {

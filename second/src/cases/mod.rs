@@ -1,5 +1,6 @@
 //! Makes the inputs of the comparison: graphs of every size, whole and damaged, with a marking and an entry for each.
 
+pub mod cabinet;
 mod crowds;
 mod damage;
 mod dice;

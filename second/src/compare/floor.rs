@@ -5,6 +5,7 @@ use crate::seen::Seen;
 use crate::words::Kind;
 use second::cases::Dice;
 use std::fmt::Debug;
+use std::ops::RangeInclusive;
 
 /// A call's name, and every answer that it can give.
 pub struct Table {
@@ -22,15 +23,21 @@ pub struct Floor<I: 'static> {
     pub make: fn(&mut Dice) -> I,
     /// The same with a journal of full length or a store that is nearly filled, where the floor has such.
     pub full: Option<fn(&mut Dice) -> I>,
-    /// The number of steps, where it is lawful: each from 1 to 64 must come up.
+    /// The number of steps, where it is lawful.
     pub size: fn(&I) -> Option<u64>,
+    /// Each of these must come up.
+    pub sizes: RangeInclusive<u64>,
     pub calls: &'static [Call<I>],
 }
+
+/// As many steps as a graph can have.
+pub const ANY_SIZE: RangeInclusive<u64> = 1..=64;
 
 /// A floor of any kind of input.
 pub trait Play: Sync {
     fn name(&self) -> &'static str;
     fn tables(&self) -> Vec<&'static Table>;
+    fn sizes(&self) -> RangeInclusive<u64>;
     /// Makes an input and puts it through every call. `again` says how to make it once more.
     fn play(&self, dice: Dice, full: bool, again: &str, report: &mut Report);
 }
@@ -42,6 +49,10 @@ impl<I: Debug> Play for Floor<I> {
 
     fn tables(&self) -> Vec<&'static Table> {
         self.calls.iter().map(|call| &call.table).collect()
+    }
+
+    fn sizes(&self) -> RangeInclusive<u64> {
+        self.sizes.clone()
     }
 
     fn play(&self, mut dice: Dice, full: bool, again: &str, report: &mut Report) {

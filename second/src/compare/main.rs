@@ -3,6 +3,7 @@
 //! how often each answer came and where they differ. Fails (status 1) where they differ, or where in 20,000 cases or more
 //! an answer that a call can give never came up.
 
+mod cabinet;
 mod ends;
 mod floor;
 mod folds;
@@ -32,6 +33,7 @@ const FLOORS: &[&dyn Play] = &[
     &laps::FLOOR,
     &tracker::FLOOR,
     &ends::FLOOR,
+    &cabinet::FLOOR,
 ];
 
 struct Options {

@@ -59,8 +59,8 @@ impl Report {
         for floor in floors {
             floor.tables().iter().for_each(|table| self.print(table, &mut missing));
             let sizes = &self.sizes[floor.name()];
-            println!("{}: {} of the 64 sizes", floor.name(), sizes.len());
-            let missed = (1..=64).filter(|n| !sizes.contains(n));
+            println!("{}: {} of the {} sizes", floor.name(), sizes.len(), floor.sizes().count());
+            let missed = floor.sizes().filter(|n| !sizes.contains(n));
             missing.extend(missed.map(|n| format!("{} of {n} steps", floor.name())));
         }
         let covered = cases < ENOUGH || missing.is_empty();

@@ -71,16 +71,11 @@ pub const WAITS_FOR_MOST: Kind = (MOST + 15, "step waits for 63 or 64");
 /// Of a single entry.
 pub const ENTRY: &[Kind] = &[UNKNOWN, NOT_HELD, NOT_ON_STEP, EXCLUDED, WAITS_FOR_ONE, WAITS_FOR_SOME, WAITS_FOR_MOST];
 
-/// Of the entries of a journal, by lateness.
-pub const ENTRIES: &[Kind] = &[
-    UNKNOWN,
-    later(UNKNOWN),
-    NOT_HELD,
-    later(NOT_HELD),
-    NOT_ON_STEP,
-    later(NOT_ON_STEP),
-    EXCLUDED,
-    later(EXCLUDED),
+/// Of the entries of a journal, by lateness, but for those that wait.
+pub const ENTRIES: &[Kind] =
+    &[UNKNOWN, later(UNKNOWN), NOT_HELD, later(NOT_HELD), NOT_ON_STEP, later(NOT_ON_STEP), EXCLUDED, later(EXCLUDED)];
+
+pub const WAITING_ENTRIES: &[Kind] = &[
     WAITS_FOR_ONE,
     later(WAITS_FOR_ONE),
     WAITS_FOR_SOME,

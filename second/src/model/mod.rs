@@ -6,6 +6,7 @@
 
 mod allowed;
 mod ask;
+pub mod cabinet;
 mod check;
 mod ends;
 mod finished;

@@ -3,6 +3,7 @@
 
 mod allowed;
 mod ask;
+mod cabinet;
 mod check;
 mod ends;
 mod finished;
@@ -19,6 +20,7 @@ mod walk;
 
 pub use allowed::{allowed_to, allowed_to_someone};
 pub use ask::ask;
+pub use cabinet::cabinet;
 pub use check::check;
 pub use ends::{can_end, can_end_by_slots};
 pub use finished::finished;

@@ -20,6 +20,7 @@ pub enum Refusal {
     EmptyLap,
     Room,
     Store,
+    Arms,
 }
 
 impl Refusal {
@@ -45,6 +46,7 @@ impl Refusal {
             Refusal::EmptyLap => 17,
             Refusal::Room => 18,
             Refusal::Store => 22,
+            Refusal::Arms => 30,
         }
     }
 

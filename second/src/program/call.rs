@@ -91,6 +91,7 @@ fn named(name: &OsStr) -> Result<&'static Command, Vec<u8>> {
 fn given(operands: &Operands, from: Option<&OsStr>) -> Result<Given, Vec<u8>> {
     let entry = numbers(&operands.entry, b": a person, step or role is a number, digits 0 to 9 alone")?;
     let markings = numbers(operands.markings.as_slice(), b": MARKINGS is a number, digits 0 to 9 alone")?;
+    let arms = numbers(operands.arms.as_slice(), b": ARMS is a number, digits 0 to 9 alone")?;
     if operands.added_to.is_some_and(|name| name == "-") {
         return Err(b"-: the journal is a file, and has to be named".to_vec());
     }
@@ -103,8 +104,10 @@ fn given(operands: &Operands, from: Option<&OsStr>) -> Result<Given, Vec<u8>> {
     let read = operands.inputs.iter().map(|(kind, name)| input(kind, name));
     let files = read.chain(operands.added_to.map(files::read_if_there)).collect::<Result<_, _>>()?;
     let from = from.map(|name| input("MARKING", name)).transpose()?;
-    let [person, markings] = [&entry, &markings].map(|numbers| numbers.first().copied());
-    Ok(Given { n: operands.n, entry: any_entry(&entry), person, markings, files, from })
+    let [person, markings, arms] = [&entry, &markings, &arms].map(|numbers| numbers.first().copied());
+    // Where the command takes none, they are any.
+    let arms = arms.unwrap_or_default();
+    Ok(Given { n: operands.n, entry: any_entry(&entry), person, markings, arms, files, from })
 }
 
 /// What each of these words says, or that one of them is wrong.

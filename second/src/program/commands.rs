@@ -2,7 +2,7 @@ use super::{asking, ends, journals, markings, may, records, sheets, Given, Reply
 
 pub struct Command {
     pub name: &'static str,
-    /// N and MARKINGS are numbers, PERSON, STEP and ROLE are an entry, OUT is a file that is written; the others are files that
+    /// N, MARKINGS and ARMS are numbers, PERSON, STEP and ROLE are an entry, OUT is a file that is written; the others are files that
     /// are read. What stands in brackets may be left out.
     pub takes: &'static str,
     /// Besides --force, which goes with OUT.
@@ -53,10 +53,17 @@ const fn command(
 
 const ENTRY: &str = "SHEET JOURNAL PERSON STEP ROLE";
 
-pub static COMMANDS: [Command; 18] = [
+pub static COMMANDS: [Command; 19] = [
     command("check", "SHEET", &[], "is the sheet one?", sheets::check),
     command("show", "SHEET", &[], "what the sheet holds", sheets::show),
     command("write", "SHEET OUT", &[], "the sheet, read and written again", sheets::write),
+    command(
+        "cabinet",
+        "ARMS OUT",
+        &[],
+        "the sheet of the cabinet's job, for a mast with so many arms",
+        sheets::cabinet,
+    ),
     command(
         "may",
         "SHEET JOURNAL [PERSON]",

@@ -96,6 +96,11 @@ pub fn store(markings: u64) -> Option<Finding> {
     see((1..=2_048).contains(&markings), format_args!("a store for {markings} markings"), "1 to 2048").err()
 }
 
+/// Number 30 of a mast with so many arms.
+pub fn arms(arms: u64) -> Option<Finding> {
+    see((2..=16).contains(&arms), format_args!("{arms} arms"), "2 to 16").err()
+}
+
 /// Why an entry is not allowed at a marking, with a number from 11 to 15.
 pub fn entry(g: &Graph, m: &Marking, entry: impl Into<AnyEntry>) -> Option<Finding> {
     not_allowed(g, m, entry.into()).err()

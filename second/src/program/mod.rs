@@ -54,13 +54,14 @@ enum Said {
     Undecided,
 }
 
-/// What a command is given: a number, an entry or a person alone, how many markings a store is for, files that were read,
-/// and the marking to start from.
+/// What a command is given: a number, an entry or a person alone, how many markings a store is for, how many arms a mast
+/// has, files that were read, and the marking to start from.
 struct Given {
     n: u64,
     entry: AnyEntry,
     person: Option<u64>,
     markings: Option<u64>,
+    arms: u64,
     files: Vec<Input>,
     from: Option<Input>,
 }

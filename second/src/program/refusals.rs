@@ -1,5 +1,5 @@
-/// The numbers in words: 1 to 18, then 22.
-const WORDS: [&str; 19] = [
+/// The numbers in words: 1 to 18, then 22 and 30.
+const WORDS: [&str; 20] = [
     "not laid out as a sheet",
     "a count is out of range",
     "the bodies of the sheet do not fit its counts",
@@ -19,12 +19,14 @@ const WORDS: [&str; 19] = [
     "the lap is empty",
     "there is too little room",
     "the store is no whole number of markings from 1 to 2,048",
+    "the number of arms is not from 2 to 16",
 ];
 
 /// What a number means, from 1.
 pub fn words(number: u64) -> &'static str {
     match number {
         22 => WORDS[18],
+        30 => WORDS[19],
         _ => WORDS[number as usize - 1],
     }
 }

@@ -35,6 +35,13 @@ pub fn write(given: &Given) -> Reply {
     Ok(Answer { bytes, ..Answer::new(Lines::default()) })
 }
 
+/// The sheet of a mast with so many arms.
+pub fn cabinet(given: &Given) -> Reply {
+    let sheet = model::cabinet::write(given.arms, ROOM);
+    let bytes = sheet.map_err(|number| Lines::refused(number).finding(findings::arms(given.arms)))?;
+    Ok(Answer { bytes, ..Answer::new(Lines::default()) })
+}
+
 fn counts(lines: Lines, g: &Graph) -> Lines {
     lines.say("steps", g.steps).say("people", g.people).say("roles", g.roles).say("actions", g.actions)
 }

@@ -37,13 +37,14 @@ pub fn sorted(words: &[OsString]) -> Result<Words<'_>, Vec<u8>> {
     Ok(sorted)
 }
 
-/// The operands behind the command: a number, the words of an entry or of a person alone, that of a store's markings,
-/// files to be read, and a file to be written or added to.
+/// The operands behind the command: a number, the words of an entry or of a person alone, that of a store's markings or of
+/// a mast's arms, files to be read, and a file to be written or added to.
 #[derive(Default)]
 pub struct Operands<'a> {
     pub n: u64,
     pub entry: Vec<&'a OsStr>,
     pub markings: Option<&'a OsStr>,
+    pub arms: Option<&'a OsStr>,
     pub inputs: Vec<(&'static str, &'a OsStr)>,
     pub out: Option<&'a OsStr>,
     pub added_to: Option<&'a OsStr>,
@@ -60,6 +61,7 @@ pub fn operands<'a>(command: &Command, words: &Words<'a>) -> Option<Operands<'a>
             "N" => operands.n = number(word)?,
             "PERSON" | "[PERSON]" | "STEP" | "ROLE" => operands.entry.push(word),
             "[MARKINGS]" => operands.markings = Some(word),
+            "ARMS" => operands.arms = Some(word),
             "OUT" | "[OUT]" => operands.out = Some(word),
             "JOURNAL" if command.adds() => operands.added_to = Some(word),
             kind => operands.inputs.push((kind, word)),

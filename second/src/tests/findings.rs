@@ -165,6 +165,9 @@ fn journals_and_markings() {
     said(findings::store(0), "a store for 0 markings", "1 to 2048");
     said(findings::store(2_049), "a store for 2049 markings", "1 to 2048");
     assert_eq!([findings::store(1), findings::store(2_048)], [None, None]);
+    said(findings::arms(1), "1 arms", "2 to 16");
+    said(findings::arms(u64::MAX), "18446744073709551615 arms", "2 to 16");
+    assert_eq!([findings::arms(2), findings::arms(16)], [None, None]);
 }
 
 #[test]

@@ -62,6 +62,9 @@ enum-told-17 c = search needs
 enum-told-18 : tie.Need-enum-told-18
 enum-told-18 c = search needs
 
+enum-told-19 : tie.Need-enum-told-19
+enum-told-19 c = search needs
+
 returns : tie.Need-returns
 unfolding toldOf numberOf waitingOf
 returns c = sym (ap toldOf (c .enum-told .given .1))
@@ -138,6 +141,10 @@ returns-19 : tie.Need-returns-19
 unfolding toldOf numberOf waitingOf
 returns-19 c = sym (ap toldOf (c .enum-told18 .given .1))
 
+returns-20 : tie.Need-returns-20
+unfolding toldOf numberOf waitingOf
+returns-20 c = sym (ap toldOf (c .enum-told19 .given .1))
+
 pub tell-spec : {M : Type 1} → statement M
 tell-spec =
     tie.close
@@ -161,6 +168,7 @@ tell-spec =
     enum-told-16
     enum-told-17
     enum-told-18
+    enum-told-19
     returns
     returns-2
     returns-3
@@ -179,4 +187,5 @@ tell-spec =
     returns-16
     returns-17
     returns-18
-    returns-19)
+    returns-19
+    returns-20)

@@ -2,7 +2,7 @@
 
 mod can_end;
 
-use crate::floor::Floor;
+use crate::floor::{Floor, ANY_SIZE};
 use crate::seen;
 use second::cases::ends::{full, make, End};
 use second::data::Graph;
@@ -14,6 +14,7 @@ pub const FLOOR: Floor<Input> = Floor {
     make: |dice| Input::new(make(dice), graph),
     full: Some(|dice| Input::new(full(dice), graph)),
     size: |input| input.size,
+    sizes: ANY_SIZE,
     calls: &[can_end::CALL],
 };
 

@@ -3,7 +3,7 @@
 mod fold;
 mod restore;
 
-use crate::floor::Floor;
+use crate::floor::{Floor, ANY_SIZE};
 use crate::seen;
 use second::cases::folds::{full, make, Fold};
 use second::data::Graph;
@@ -15,6 +15,7 @@ pub const FLOOR: Floor<Input> = Floor {
     make: |dice| Input::new(make(dice), graph),
     full: Some(|dice| Input::new(full(dice), graph)),
     size: |input| input.size,
+    sizes: ANY_SIZE,
     calls: &[fold::CALL, restore::CALL],
 };
 

@@ -1,7 +1,7 @@
 use super::Input;
 use crate::floor::{Call, Table};
 use crate::seen::Seen;
-use crate::words::{by_lateness, ENTRIES, GRAPH, ILL_FORMED, LENGTH, NOT_APPLIED, OUTSIDE};
+use crate::words::{by_lateness, ENTRIES, GRAPH, ILL_FORMED, LENGTH, NOT_APPLIED, OUTSIDE, WAITING_ENTRIES};
 use crate::{border, lent};
 use second::cases::folds::Fold;
 use second::{model, peer};
@@ -14,6 +14,7 @@ pub const CALL: Call<Input> = Call {
             GRAPH,
             &[LENGTH, OUTSIDE, ILL_FORMED, NOT_APPLIED],
             ENTRIES,
+            WAITING_ENTRIES,
         ],
     },
     run,

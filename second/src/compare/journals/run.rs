@@ -1,7 +1,7 @@
 use super::Input;
 use crate::floor::{Call, Table};
 use crate::seen::Seen;
-use crate::words::{by_lateness, ENTRIES, GRAPH, LENGTH, OUTSIDE};
+use crate::words::{by_lateness, ENTRIES, GRAPH, LENGTH, OUTSIDE, WAITING_ENTRIES};
 use crate::{border, lent};
 use second::cases::journals::Journal;
 use second::{model, peer};
@@ -9,7 +9,13 @@ use second::{model, peer};
 pub const CALL: Call<Input> = Call {
     table: Table {
         name: "run",
-        answers: &[&[(0, "an empty journal passes"), (256, "all entries pass")], GRAPH, &[LENGTH, OUTSIDE], ENTRIES],
+        answers: &[
+            &[(0, "an empty journal passes"), (256, "all entries pass")],
+            GRAPH,
+            &[LENGTH, OUTSIDE],
+            ENTRIES,
+            WAITING_ENTRIES,
+        ],
     },
     run,
 };

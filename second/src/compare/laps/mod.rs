@@ -2,7 +2,7 @@
 
 mod lap;
 
-use crate::floor::Floor;
+use crate::floor::{Floor, ANY_SIZE};
 use crate::seen;
 use second::cases::laps::{full, make, Lap};
 use second::data::Graph;
@@ -14,6 +14,7 @@ pub const FLOOR: Floor<Input> = Floor {
     make: |dice| Input::new(make(dice), graph),
     full: Some(|dice| Input::new(full(dice), graph)),
     size: |input| input.size,
+    sizes: ANY_SIZE,
     calls: &[lap::CALL],
 };
 

@@ -5,7 +5,7 @@ mod join;
 mod read;
 mod write;
 
-use crate::floor::Floor;
+use crate::floor::{Floor, ANY_SIZE};
 use crate::lent;
 use crate::seen::Seen;
 use second::cases::records::{make, Records};
@@ -15,6 +15,7 @@ pub const FLOOR: Floor<Records> = Floor {
     make,
     full: None,
     size: |case| (1..=64).contains(&case.n).then_some(case.n),
+    sizes: ANY_SIZE,
     calls: &[join::CALL, apply::CALL, read::CALL, write::CALL],
 };
 

@@ -8,7 +8,7 @@ mod finished;
 mod keep;
 mod take;
 
-use crate::floor::Floor;
+use crate::floor::{Floor, ANY_SIZE};
 use crate::seen;
 use second::cases::{self, Case};
 
@@ -19,6 +19,7 @@ pub const FLOOR: Floor<Input> = Floor {
     make: |dice| Input::new(cases::make(dice), |case| &case.graph),
     full: None,
     size: |input| input.size,
+    sizes: ANY_SIZE,
     calls: &[
         check::CALL,
         ask::CALL,

@@ -3,13 +3,13 @@
 mod read;
 mod write;
 
-use crate::floor::Floor;
+use crate::floor::{Floor, ANY_SIZE};
 use crate::{
     border, lent,
     seen::{self, Seen},
 };
 use second::cases::sheets::{make, Sheet};
-use second::data::{Graph, Marking};
+use second::data::{Graph, Marking, Written};
 
 type Input = seen::Input<Sheet>;
 
@@ -18,6 +18,7 @@ pub const FLOOR: Floor<Input> = Floor {
     make: |dice| Input::new(make(dice), |case| &case.graph),
     full: None,
     size: |input| input.size,
+    sizes: ANY_SIZE,
     calls: &[read::CALL, write::CALL],
 };
 
@@ -38,8 +39,16 @@ const GRAPH: Graph = Graph {
     ..Graph::bare(201, 202, 203)
 };
 
+/// What the answer is and what the room then holds, where this is to be written into it.
+pub fn placed(sheet: &Result<Vec<u8>, u64>, room: &[u8]) -> (Written, Vec<u8>) {
+    match sheet {
+        Ok(sheet) => (Written { number: 0, length: sheet.len() as u64 }, [sheet, &room[sheet.len()..]].concat()),
+        Err(number) => (Written { number: *number, length: 0 }, room.to_vec()),
+    }
+}
+
 /// Looks at what the box reads.
-fn expect_read(seen: &mut Seen, sheet: &[u8], number: u64, graph: &Graph, marking: Marking) {
+pub fn expect_read(seen: &mut Seen, sheet: &[u8], number: u64, graph: &Graph, marking: Marking) {
     let (mut read, mut block, mut first) =
         (lent::Bytes::new(sheet), lent::Words::new(GRAPH), lent::Words::new(MARKING));
     seen.expect("ours", &number, &border::read(read.part(), &mut block.content, &mut first.content));

@@ -1,10 +1,10 @@
-use super::{expect_read, Input};
+use super::{expect_read, placed, Input};
 use crate::floor::{Call, Table};
 use crate::seen::Seen;
 use crate::words::{BEYOND, GRAPH, ROOM};
 use crate::{border, lent};
 use second::cases::sheets::Sheet;
-use second::data::{Bytes, Written};
+use second::data::Bytes;
 use second::{model, peer};
 
 /// Number 4 of the marking alone is told apart from that of the graph.
@@ -16,10 +16,7 @@ pub const CALL: Call<Input> = Call {
 fn run(input: &Input) -> Seen {
     let &Sheet { ref graph, marking, ref room, .. } = &input.case;
     let sheet = model::sheet::write(&input.graph, marking, room.len());
-    let (right, after) = match &sheet {
-        Ok(sheet) => (Written { number: 0, length: sheet.len() as u64 }, [sheet, &room[sheet.len()..]].concat()),
-        Err(number) => (Written { number: *number, length: 0 }, room.to_vec()),
-    };
+    let (right, after) = placed(&sheet, room);
     let marking_alone = right.number == BEYOND.0 && model::check(&input.graph) != BEYOND.0;
     let mut seen = Seen::new(right.number + 256 * u64::from(marking_alone));
     let (mut ours, mut peers) = (lent::Bytes::new(room), room.clone());

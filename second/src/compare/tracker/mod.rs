@@ -5,7 +5,7 @@ mod start;
 mod step;
 mod walk;
 
-use crate::floor::Floor;
+use crate::floor::{Floor, ANY_SIZE};
 use crate::seen;
 use second::cases::tracks::{make, Track};
 
@@ -16,5 +16,6 @@ pub const FLOOR: Floor<Input> = Floor {
     make: |dice| Input::new(make(dice), |case| &case.graph),
     full: None,
     size: |input| input.size,
+    sizes: ANY_SIZE,
     calls: &[start::CALL, idle::CALL, step::CALL, walk::CALL],
 };

@@ -6,7 +6,7 @@ use crate::peer::{
 };
 
 /// How many bodies are written.
-const BODIES: usize = 6;
+pub const BODIES: usize = 6;
 
 /// Writes the sheet to the beginning of the room.
 pub fn write(g: &Graph, m: Marking, room: &mut [u8]) -> Written {
@@ -49,7 +49,7 @@ fn count(g: &Graph) -> usize {
     tables.iter().flat_map(|rows| rows.iter()).map(|row| row.count_ones() as usize).sum()
 }
 
-fn write_contents(contents: &mut [u8], lengths: [usize; BODIES]) {
+pub fn write_contents(contents: &mut [u8], lengths: [usize; BODIES]) {
     contents[0] = BODIES as u8;
     let mut offset = start(BODIES);
     for (i, line) in contents[1..].as_chunks_mut().0.iter_mut().enumerate() {

@@ -1,0 +1,3 @@
+pub mod Cabinet
+pub mod Rows
+pub mod Laws
