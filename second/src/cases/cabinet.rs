@@ -2,6 +2,7 @@
 
 use super::{journals, walks::push, Dice};
 use crate::data::{Bytes, Entry};
+use crate::{model, peer};
 
 #[derive(Clone, Debug)]
 pub struct Cabinet {
@@ -88,22 +89,23 @@ fn any_arms(dice: &mut Dice) -> u64 {
     }
 }
 
-/// Mostly the step that is next in its order, by the one who takes it, and at times a reboot, more often or less; half of
-/// them have one entry somewhere that most often is refused there.
+/// At times a reboot, more often or less, and mostly another step that may be taken, whichever those are: a job in which more
+/// is open than should be is gone through all the same. Half of them have one entry somewhere that most often is refused there.
 pub fn journal(dice: &mut Dice, arms: u64, entries: usize) -> Vec<u8> {
+    let (graph, start) = model::cabinet::job(arms);
+    let (graph, mut at) = (graph.write(), start.write());
     let (publish, seldom) = (arms as u8 + 1, dice.pick(&[2, 8, 24, 100]));
     let wrong = dice.one_in(2).then(|| dice.between(0, entries.max(1)));
-    let (mut journal, mut next) = (Vec::new(), 1);
+    let mut journal = Vec::new();
     for place in 0..entries {
-        if wrong == Some(place) {
-            push(&mut journal, refused(dice, publish, next));
-        } else if dice.one_in(seldom) {
-            push(&mut journal, by(dice.below(2) as u8, 0));
-            next = 1;
-        } else {
-            push(&mut journal, taken(publish, next));
-            next = publish.min(next + 1);
-        }
+        let next = dice.member(peer::allowed_to_someone(&graph, at).steps & !1);
+        let entry = match next {
+            _ if wrong == Some(place) => refused(dice, publish, next.unwrap_or(1)),
+            Some(step) if !dice.one_in(seldom) => taken(publish, step),
+            _ => by(dice.below(2) as u8, 0),
+        };
+        peer::keep(&graph, &mut at, entry);
+        push(&mut journal, entry);
     }
     journal
 }

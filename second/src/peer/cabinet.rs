@@ -1,8 +1,8 @@
 use super::{
-    sheet::{start, write_contents, BODIES},
+    sheet::{self, start, write_contents, BODIES},
     Refusal,
 };
-use crate::data::Written;
+use crate::data::{Graph, Marking, Written};
 
 /// Writes the sheet of a mast with so many arms to the beginning of the room. There is no graph: each byte follows from the
 /// arms.
@@ -53,4 +53,31 @@ fn write_arrows(arrows: &mut [[u8; 3]], arms: usize) {
     opened.iter_mut().zip(0..).for_each(|(arrow, step)| *arrow = [2, step, step + 1]);
     shut.iter_mut().zip(2..).for_each(|(arrow, step)| *arrow = [3, 0, step]);
     closed.iter_mut().zip(1..).for_each(|(arrow, check)| *arrow = [3, check, check]);
+}
+
+/// The same by way of the graph, as ours goes: the job is made, and written as any other.
+pub fn cabinet_by_graph(arms: u64, room: &mut [u8]) -> Written {
+    if !(2..=16).contains(&arms) {
+        return Written { number: Refusal::Arms.number(), length: 0 };
+    }
+    let (graph, marking) = job(arms as usize);
+    sheet::write(&graph, marking, room)
+}
+
+fn job(arms: usize) -> (Graph, Marking) {
+    let publish = arms + 1;
+    let checks = ((1 << arms) - 1) << 1;
+    let mut g = Graph::bare(arms as u64 + 2, 2, 2);
+    g.responses[0] = checks;
+    g.excludes[0] = checks << 1;
+    g.includes[0] = 0b10;
+    g.allows[0] = 0b11;
+    for check in 1..publish {
+        g.includes[check] = 1 << (check + 1);
+        g.excludes[check] = 1 << check;
+        g.allows[check] = 0b01;
+    }
+    g.allows[publish] = 0b10;
+    (g.holds[0], g.holds[1]) = (0b01, 0b10);
+    (g, Marking { done: 0, due: checks, included: 0b11 })
 }

@@ -20,7 +20,7 @@ mod walk;
 
 pub use allowed::{allowed_to, allowed_to_someone};
 pub use ask::ask;
-pub use cabinet::cabinet;
+pub use cabinet::{cabinet, cabinet_by_graph};
 pub use check::check;
 pub use ends::{can_end, can_end_by_slots};
 pub use finished::finished;

@@ -36,12 +36,15 @@ fn run(input: &Input) -> Seen {
     if right.number == 30 && room.len() < SHORTEST {
         seen.kinds.push(SHORT);
     }
-    let (mut ours, mut peers) = (lent::Bytes::new(room), room.clone());
+    let (mut ours, mut peers, mut seconds) = (lent::Bytes::new(room), room.clone(), room.clone());
     seen.expect("ours", &right, &border::cabinet(arms, ours.part()));
     seen.expect("peer", &right, &peer::cabinet(arms, &mut peers.0));
+    seen.expect("peer, by a graph", &right, &peer::cabinet_by_graph(arms, &mut seconds.0));
     let written = ours.part()[..right.length as usize].to_vec();
     ours.expect(&mut seen, "the room of ours", &after);
-    seen.expect("the room of peer", &Bytes(after), &peers);
+    let after = Bytes(after);
+    seen.expect("the room of peer", &after, &peers);
+    seen.expect("the room of peer, by a graph", &after, &seconds);
     if right.number == 0 {
         expect_read(&mut seen, &written, 0, &input.graph.write(), input.start);
     }
