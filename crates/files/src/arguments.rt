@@ -219,7 +219,7 @@ fn with_digit(v: u64, b: u8) -> u64 {
     if b < b'0' {
         return v;
     }
-    if 1844674407370955160 < v {
+    if 1844674407370955161 < v {
         return MOST;
     }
     let ten = 10 * v;
