@@ -1,13 +1,15 @@
 -- The laws of steps in a row: what the cut leaves, the checks among them, and numbers in order. Assumes nothing.
 use Prim.Native.Nat.{ℕ, zero, suc, _+_, _≤_, _<_}
-use mathlib.Core.Path.{_≡_, refl, sym, ap, ap₂, _∙_}
-use mathlib.Core.List.{List, [], _∷_, _++_, append-nil}
+use mathlib.Core.Path.{_≡_, refl, sym, ap, ap₂, _∙_, subst}
+use mathlib.Core.List.{List, [], _∷_, _++_, append-assoc, append-nil}
 use mathlib.Core.Bool.{Bool, true, false, _&&_, cond, true≢false}
 use native.Mathlib.Omega.{arith}
+use native.Mathlib.Decide.{decLt}
 use lib.ListN.{length, replicate, length-append, List·getD-append}
-use lib.Seq.{append-snoc}
+use lib.Seq.{append-snoc, getD-at}
 use lib.Dec.{eqb, leb}
-use borrow.Author.Tests.{ne-eqb, le-leb, lt-leb}
+use borrow.Author.Tests.{eq-eqb, ne-eqb, le-leb, lt-leb}
+use Rattle.sets.specs.Truth.{decEq}
 use Rattle.moves.specs.declared.Entry.{Entry}
 use Rattle.bodies.specs.Tables.{tabled, length-tabled, row-tabled}
 use Rattle.cabinet.specs.Cabinet.{reboot, publish}
@@ -40,6 +42,43 @@ unfolding keptOn
 behind-since steps behind (started e none) = ap sinceReboot e ∙ kept-all [] behind none
 behind-since steps behind (rebooted before e none) =
     ap sinceReboot e ∙ kept-append [] before (reboot ∷ behind) ∙ kept-all [] behind none
+
+none-more : (kept : List ℕ) (s : ℕ) → (Occurs reboot kept → ⊥) → (s ≡ reboot → ⊥) → Occurs reboot (kept ++ (s ∷ [])) → ⊥
+none-more kept s none other o = go (decLt (o .0) (length kept))
+  where
+    go : Dec (o .0 < length kept) → ⊥
+    go (yes l) = none (o .0, l, sym (List·getD-append kept (s ∷ []) 0 (o .0) l) ∙ o .2)
+    go (no l) =
+        let all : length (kept ++ (s ∷ [])) ≡ length kept + 1 = length-append kept (s ∷ []) in
+        let low : o .0 < length (kept ++ (s ∷ [])) = o .1 in
+        other (sym (getD-at kept s [] 0 (o .0) (let z : length kept ≡ o .0 = omega arith in z)) ∙ o .2)
+
+-- and something always stands behind: what the cut leaves
+behind-kept : (kept steps : List ℕ) → (Occurs reboot kept → ⊥) → Behind (kept ++ steps) (keptOn kept steps)
+unfolding keptOn
+behind-kept kept [] none = started (append-nil kept) none
+behind-kept kept (s ∷ rest) none = go (decEq s reboot) (behind-kept [] rest nothing) (λ other. behind-kept (kept ++ (s ∷ [])) rest (none-more kept s none other))
+  where
+    nothing : Occurs reboot [] → ⊥
+    nothing o = let low : o .0 < 0 = o .1 in let w : ⊥ = omega arith in w
+
+    after : s ≡ reboot → Behind rest (keptOn [] rest) → Behind (kept ++ (s ∷ rest)) (keptOn [] rest)
+    after e (started q free) = rebooted kept (ap₂ (λ (x : ℕ) (l : List ℕ). kept ++ (x ∷ l)) e q) free
+    after e (rebooted before q free) =
+        rebooted (kept ++ (s ∷ before))
+        (ap (λ (l : List ℕ). kept ++ (s ∷ l)) q ∙ sym (append-assoc kept (s ∷ before) (reboot ∷ keptOn [] rest))) free
+
+    go : Dec (s ≡ reboot) → Behind ([] ++ rest) (keptOn [] rest)
+        → ((s ≡ reboot → ⊥) → Behind ((kept ++ (s ∷ [])) ++ rest) (keptOn (kept ++ (s ∷ [])) rest))
+        → Behind (kept ++ (s ∷ rest)) (keptOn (cond (eqb s reboot) [] (kept ++ (s ∷ []))) rest)
+    go (yes e) again on =
+        subst (λ (t : Bool). Behind (kept ++ (s ∷ rest)) (keptOn (cond t [] (kept ++ (s ∷ []))) rest)) (sym (eq-eqb s reboot e)) (after e again)
+    go (no other) again on =
+        subst (λ (t : Bool). Behind (kept ++ (s ∷ rest)) (keptOn (cond t [] (kept ++ (s ∷ []))) rest)) (sym (ne-eqb s reboot other))
+        (subst (λ (l : List ℕ). Behind l (keptOn (kept ++ (s ∷ [])) rest)) (append-snoc kept s rest) (on other))
+
+pub behind-there : (steps : List ℕ) → Behind steps (sinceReboot steps)
+behind-there steps = behind-kept [] steps (λ o. let low : o .0 < 0 = o .1 in let w : ⊥ = omega arith in w)
 
 -- ---- the checks among steps
 
