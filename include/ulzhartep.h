@@ -251,7 +251,7 @@ typedef struct ulz_lapped {
     uint64_t verdict; /* ULZ_ACCEPTED or ULZ_STARVED where the number is 0, and 0 with every other number */
     uint64_t step;    /* with ULZ_STARVED the lowest step that starves, otherwise 0 */
     uint64_t index;   /* with 11 to 15 the index from 0 of the refused entry, in the stem or in the lap; otherwise 0 */
-    uint64_t pass;    /* with 11 to 15 where that was: 0 stem, 1 first time round the lap, 2 second; otherwise 0 */
+    uint64_t pass;    /* with 11 to 15 where that was: 0 stem, 1 first time round the lap, 2 second, 3 later; otherwise 0 */
 } ulz_lapped;
 
 enum { ULZ_ACCEPTED = 1, ULZ_STARVED = 2 };

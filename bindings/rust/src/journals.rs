@@ -27,7 +27,7 @@ pub enum Verdict {
     Starved(u64),
 }
 
-/// A lap was refused; with 11 to 15 at the entry of this index, in the stem (pass 0) or in the lap (pass 1 or 2).
+/// A lap was refused; with 11 to 15 at the entry of this index, in the stem (pass 0) or in the lap (pass 1, 2, or 3 for later).
 #[derive(Clone, Copy, PartialEq, Eq, Debug)]
 pub struct LapRefused {
     pub refusal: Refusal,

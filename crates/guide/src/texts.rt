@@ -215,7 +215,7 @@ fn say_lap_page(page: &mut Page) {
         page,
         b"Prints 'accepted' where each step that becomes due is later done or seen excluded, else 'starved' and the lowest step\n\
           that stays due and included and is never done.\n\
-          A refused entry is printed with its pass: 0 stem, 1 first lap, 2 second lap.\n\
+          A refused entry is printed with its pass: 0 stem, 1 first lap, 2 second lap, 3 a later one.\n\
           It starts at the sheet's first marking, or with --from at that of a file of 24 bytes. With --status the exit status is\n\
           0 for accepted, 1 for starved and 2 for anything else, a refusal among them.\n\
           Refusals: 1 to 6, 7, 8, 17 (the lap is empty), then 11 to 15.\n",

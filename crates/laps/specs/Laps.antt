@@ -1,5 +1,5 @@
 -- A stem and a lap: the stem is run once, and then the lap again and again, without end.
-use Rattle.std.specs.Prelude.{ℕ, suc, ◌-◌, ◌/◌, ◌%◌, ◌≡◌, List, [], ◌∷◌, ◌++◌, not, ◌&&◌, cond, length, get_or, eqb, ltb}
+use Rattle.std.specs.Prelude.{ℕ, ◌+◌, ◌-◌, ◌%◌, ◌≡◌, List, [], ◌∷◌, ◌++◌, not, ◌&&◌, cond, length, get_or, eqb, ltb}
 use Rattle.rules.specs.Graph.{Graph, graph_lines}
 use Rattle.moves.specs.Move.{entry_of}
 use Rattle.moves.specs.declared.Marking.{Marking}
@@ -24,9 +24,12 @@ endless_run stem lap i = cond (ltb i (length stem)) (get_or stem i (entry_of 0 0
 unfoldable pub index_at : List Entry → List Entry → ℕ → ℕ
 index_at stem lap i = cond (ltb i (length stem)) i ((i - length stem) % length lap)
 
--- its pass: 0 in the stem, and then the times that the lap has been begun: 1 on its first pass, 2 on its second, and so on without end
+-- its pass: 0 in the stem, 1 the first time round the lap, 2 the second, 3 later
 unfoldable pub pass_at : List Entry → List Entry → ℕ → ℕ
-pass_at stem lap i = cond (ltb i (length stem)) 0 (suc ((i - length stem) / length lap))
+pass_at stem lap i =
+    cond (ltb i (length stem)) 0
+    (cond (ltb i (length stem + length lap)) 1
+    (cond (ltb i (length stem + length lap + length lap)) 2 3))
 
 -- ---- number and values of each case
 
@@ -34,6 +37,7 @@ unfoldable pub number_of_pass : Pass → ℕ
 number_of_pass Pass.Stem = 0
 number_of_pass Pass.First = 1
 number_of_pass Pass.Second = 2
+number_of_pass Pass.Later = 3
 
 -- 0 where the run goes on for ever
 unfoldable pub number_of_lap : Lapped → ℕ

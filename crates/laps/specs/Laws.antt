@@ -1,6 +1,6 @@
--- The laws of laps: what is computed is an answer, there is only one, and exactly one of refused, accepted and starved holds. Assumes
--- nothing.
-use Rattle.std.specs.Prelude.{ℕ, ◌≤◌, ◌<◌, ◌≡◌, ◌⊎◌, List, true}
+-- The laws of laps: what is computed is an answer, there is only one, it never has pass 3, and exactly one of refused, accepted and
+-- starved holds. Assumes nothing.
+use Rattle.std.specs.Prelude.{ℕ, zero, suc, ◌≤◌, ◌<◌, ◌≡◌, ◌⊎◌, List, true}
 use Rattle.std.proofs.Math.Path.{refl, sym}
 use Rattle.std.proofs.Common.{ap, ◌∙◌, true≢false, le_refl, arith}
 use Rattle.std.proofs.Math.Logic.{inl, inr}
@@ -17,22 +17,26 @@ use Rattle.moves.specs.Given.{ascends, clear_refused}
 use Rattle.journal.specs.Journal.{entries}
 use Rattle.laps.specs.declared.Lapped.{Lapped}
 use Rattle.laps.specs.declared.Pass.{Pass}
-use Rattle.laps.specs.Endless.{marking_at, moved_at, DoneAt, ExcludedAt, RefusedAt, GoesOn, Accepting, Starving, Starves}
+use Rattle.laps.specs.Endless.{marking_at, moved_at, TakenAt, DoneAt, ExcludedAt, RefusedAt, GoesOn, Accepting, Starving, Starves}
 use Rattle.laps.specs.Laps.{endless_run, index_at, pass_at, number_of_pass, lap_lines, Stops, LapAnswer}
 use Rattle.laps.specs.Decision.{decision, lap_of, the_lap}
-use Rattle.laps.specs.Passes.{taken_refused, named, named_number}
-use Rattle.laps.specs.Right.{decision_right}
+use Rattle.laps.specs.Places.{never_later}
+use Rattle.laps.specs.Right.{some, sound, inside, decision_right}
 
 -- ---- any endless run
 
 module _ (g : Graph) (m : Marking) (e : ℕ → Entry) where
+  -- an entry that is taken is not refused
+  taken_refused : {A : Type 0} (i : ℕ) (r : Refusal) → TakenAt g m e i → moved_at g m e i ≡ Move.Refused (marking_at g m e i) r → A
+  taken_refused i r p q = absurd (let z : ◌≡◌ {A = ℕ} 0 1 = cc in let w : ⊥ = omega arith in w)
+
   -- the first entry not allowed is one
   one_position : (i j : ℕ) (r q : Refusal) → RefusedAt g m e i r → RefusedAt g m e j q → (i ≡ j) × (r ≡ q)
   one_position i j r q a b = go (dec_lt i j) (dec_lt j i)
     where
       go : Dec (i < j) → Dec (j < i) → (i ≡ j) × (r ≡ q)
-      go (yes h) d = taken_refused g m e i r (b.before i h) a.here
-      go (no h) (yes k) = taken_refused g m e j q (a.before j k) b.here
+      go (yes h) d = taken_refused i r (b.before i h) a.here
+      go (no h) (yes k) = taken_refused j q (a.before j k) b.here
       go (no h) (no k) =
           let same : i ≡ j = omega arith in
           let both : Move.Refused (marking_at g m e i) r ≡ Move.Refused (marking_at g m e j) q = sym a.here ∙ ap (moved_at g m e) same
@@ -57,6 +61,20 @@ module _ (g : Graph) (m : Marking) (e : ℕ → Entry) where
           at : DoneAt g m e f.0 s ⊎ ExcludedAt g m e f.0 s → ⊥
           at (inl p) = (st.1 f.0 f.1).undone p
           at (inr p) = true≢false (sym (st.1 f.0 f.1).included ∙ p)
+
+-- the pass of a number
+named : ℕ → Pass
+named zero = Pass.Stem
+named (suc zero) = Pass.First
+named (suc (suc zero)) = Pass.Second
+named (suc (suc (suc n))) = Pass.Later
+
+named_number : (p : Pass) → named (number_of_pass p) ≡ p
+unfolding named number_of_pass
+named_number Pass.Stem = refl
+named_number Pass.First = refl
+named_number Pass.Second = refl
+named_number Pass.Later = refl
 
 -- ---- a stem and a lap
 
@@ -123,6 +141,11 @@ module _ (g : Graph) (m : Marking) (stem lap : List ℕ) where
   -- so it is what is computed
   pub answer_is : (r : Lapped) → LapAnswer g m stem lap r → r ≡ the_lap g m stem lap
   answer_is r a = one_answer r (the_lap g m stem lap) a the_lap_right
+
+  -- "pass 3 never happens"
+  pub no_pass_3 : (k : ℕ) (r : Refusal) → LapAnswer g m stem lap (Lapped.Stopped k Pass.Later r) → ⊥
+  unfolding LapAnswer
+  no_pass_3 k r a = never_later S L (some g m stem lap a.0) g m (sound g m stem lap a.0) (inside g m stem lap a.0) k r a.1
 
   -- ---- exactly one of refused, accepted, starved holds
 

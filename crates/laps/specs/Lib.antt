@@ -5,7 +5,6 @@ pub mod Decision
 pub mod Legs
 pub mod Repeats
 pub mod Places
-pub mod Passes
 pub mod Ways
 pub mod Right
 pub mod Laws

@@ -1,63 +1,34 @@
 -- Where the positions of stem, lap, lap, .. stand; that entries and markings come again from the second lap on; and so that a lap
--- which is allowed on its second pass is allowed on all that follow. Assumes nothing.
-use Rattle.std.specs.Prelude.{ℕ, suc, ◌+◌, ◌*◌, ◌-◌, ◌/◌, ◌%◌, ◌≤◌, ◌<◌, ◌≡◌, refl, ◌↔◌, List, get_or}
-use Rattle.std.proofs.Common.{sym, ◌∙◌, le_trans, div-mul-le_self, div-lt_iff_lt-mul, le-div_iff_mul-le}
-use Rattle.std.proofs.Math.Path.{ap}
+-- which passes twice passes for ever. Assumes nothing.
+use Rattle.std.specs.Prelude.{ℕ, ◌+◌, ◌-◌, ◌%◌, ◌≤◌, ◌<◌, refl, ◌⊎◌, List, Bool, cond, get_or}
+use Rattle.std.proofs.Math.Path.{◌≡◌, ap}
+use Rattle.std.proofs.Common.{sym, ◌∙◌, inl, inr, mod-eq_of_lt}
 use Rattle.std.proofs.Math.Bool.{true, false}
-use Rattle.std.proofs.Math.Nat.{add-zero, mod-eq_of_lt, add-mod_right, mul-add-mod_self_right, div-zero, div-eq_of_lt, mul-add-div_right}
+use Rattle.std.proofs.Math.Nat.{add-mod_right}
 use native.Mathlib.Omega.{arith}
 use Rattle.std.proofs.Math.Decide.{dec_lt}
 use Rattle.std.proofs.Math.ListN.{length}
 use Rattle.std.proofs.Math.Dec.{ltb}
 use borrow.Author.Tests.{lt-ltb, le-ltb}
 use Rattle.sets.specs.Sets.{has}
-use Rattle.rules.specs.Graph.{Graph}
+use Rattle.rules.specs.Graph.{Graph, graph_verdict}
 use Rattle.moves.specs.Move.{entry_of}
+use Rattle.moves.specs.declared.Move.{Move}
+use Rattle.moves.specs.Inside.{Inside}
 use Rattle.moves.specs.declared.Marking.{Marking}
 use Rattle.moves.specs.declared.Entry.{Entry}
+use Rattle.moves.specs.declared.Refusal.{Refusal}
+use Rattle.moves.specs.declared.Verdict.{Verdict}
 use Rattle.folding.specs.Effect.{after_all}
 use Rattle.folding.specs.Laws.{after_twice}
-use Rattle.laps.specs.Endless.{TakenAt, marking_at, DueAt, Waiting, Starving}
-use Rattle.laps.specs.Laps.{endless_run, index_at, pass_at}
+use Rattle.laps.specs.declared.Pass.{Pass}
+use Rattle.laps.specs.Endless.{moved_at, TakenAt, marking_at, DueAt, Waiting, Starving}
+use Rattle.laps.specs.Inner.{verdict_at, Unbarred, taken_clear, moves_at}
+use Rattle.laps.specs.Laps.{endless_run, index_at, pass_at, number_of_pass, Stops}
 use Rattle.laps.specs.Legs.{chunk, chunk_is, after_chunk, Throughout}
-use Rattle.laps.specs.Repeats.{Decides, taken_on, starving_from, period_decides}
-
--- the more entries the more times round
-rounds_ascend : (l x y : ℕ) → x ≤ y → x / l ≤ y / l
-rounds_ascend l x y h = go (dec_lt 0 l)
-  where
-    go : Dec (0 < l) → x / l ≤ y / l
-    go (yes some) =
-        let whole : x / l * l ≤ x = div-mul-le_self x l in
-        (le-div_iff_mul-le {x = x / l} {y = y} some).1 (le_trans whole h)
-    go (no none) =
-        let is : l ≡ 0 = omega arith in
-        let left : x / l ≡ 0 = ap (λ (n : ℕ). x / n) is ∙ div-zero x in
-        omega (arith, left)
+use Rattle.laps.specs.Repeats.{Decides, for_ever, starving_from, period_decides}
 
 -- ---- where a position stands
-
-module _ (stem lap : List Entry) where
-  pub in_stem : (d : ℕ) → d < length stem → (endless_run stem lap d ≡ get_or stem d (entry_of 0 0 0)) × (index_at stem lap d ≡ d)
-      × (pass_at stem lap d ≡ 0)
-  unfolding endless_run index_at pass_at
-  in_stem d h = let q : ltb d (length stem) ≡ true = lt-ltb d (length stem) h in (simp q, simp q, simp q)
-
-  behind_stem : (i : ℕ) → length stem ≤ i → pass_at stem lap i ≡ suc ((i - length stem) / length lap)
-  unfolding pass_at
-  behind_stem i h = let q : ltb i (length stem) ≡ false = le-ltb i (length stem) h in simp q
-
-  -- passes come one after the other
-  pub passes_ascend : (i j : ℕ) → i ≤ j → pass_at stem lap i ≤ pass_at stem lap j
-  passes_ascend i j h = go (dec_lt i (length stem))
-    where
-      go : Dec (i < length stem) → pass_at stem lap i ≤ pass_at stem lap j
-      go (yes a) = let none : pass_at stem lap i ≡ 0 = (in_stem i a).2 in omega (arith, none)
-      go (no a) =
-          let here = behind_stem i (let z : length stem ≤ i = omega arith in z) in
-          let there = behind_stem j (let z : length stem ≤ j = omega arith in z) in
-          let rounds = rounds_ascend (length lap) (i - length stem) (j - length stem) (let z : i - length stem ≤ j - length stem = omega arith in z) in
-          omega (arith, here, there, rounds)
 
 module _ (stem lap : List Entry) (some : 0 < length lap) where
   -- the lap's first and second time begin at
@@ -67,44 +38,52 @@ module _ (stem lap : List Entry) (some : 0 < length lap) where
   abbrev second_lap_lem : ℕ
   second_lap_lem = length stem + length lap
 
-  -- entry d of the lap's pass n + 1
-  pub in_lap : (i n d : ℕ) → d < length lap → i ≡ length stem + (n * length lap + d)
-      → (endless_run stem lap i ≡ get_or lap d (entry_of 0 0 0)) × (index_at stem lap i ≡ d) × (pass_at stem lap i ≡ suc n)
+  pub in_stem : (d : ℕ) → d < length stem → (endless_run stem lap d ≡ get_or stem d (entry_of 0 0 0)) × (index_at stem lap d ≡ d)
+      × (pass_at stem lap d ≡ 0)
   unfolding endless_run index_at pass_at
-  in_lap i n d h at =
-      let q : ltb i (length stem) ≡ false = le-ltb i (length stem) (let z : length stem ≤ i = omega (arith, at) in z) in
-      let behind : i - length stem ≡ n * length lap + d = omega (arith, at) in
-      let place : (i - length stem) % length lap ≡ d =
-      ap (λ (x : ℕ). x % length lap) behind ∙ mul-add-mod_self_right n (length lap) d ∙ mod-eq_of_lt h in
-      let round : (i - length stem) / length lap ≡ n =
-      ap (λ (x : ℕ). x / length lap) behind ∙ mul-add-div_right some n d ∙ ap (λ (x : ℕ). n + x) (div-eq_of_lt h) ∙ add-zero n in
-      (simp (q, place), simp (q, place), simp (q, round))
+  in_stem d h = let q : ltb d (length stem) ≡ true = lt-ltb d (length stem) h in (simp q, simp q, simp q)
 
-  pub in_first : (i d : ℕ) → d < length lap → i ≡ first_lap_lem + d
-      → (endless_run stem lap i ≡ get_or lap d (entry_of 0 0 0)) × (index_at stem lap i ≡ d) × (pass_at stem lap i ≡ 1)
-  in_first i d h at = in_lap i 0 d h (let z : i ≡ length stem + (0 * length lap + d) = omega (arith, at) in z)
+  -- the place in the lap
+  place : (i d : ℕ) → d < length lap → (i ≡ length stem + d) ⊎ (i ≡ length stem + length lap + d) → (i - length stem) % length lap ≡ d
+  place i d h (inl p) = ap (λ (x : ℕ). x % length lap) (let z : i - length stem ≡ d = omega arith in z) ∙ mod-eq_of_lt h
+  place i d h (inr p) = ap (λ (x : ℕ). x % length lap) (let z : i - length stem ≡ d + length lap = omega arith in z)
+      ∙ add-mod_right d (length lap) ∙ mod-eq_of_lt h
 
-  pub in_second : (i d : ℕ) → d < length lap → i ≡ second_lap_lem + d
-      → (endless_run stem lap i ≡ get_or lap d (entry_of 0 0 0)) × (index_at stem lap i ≡ d) × (pass_at stem lap i ≡ 2)
-  in_second i d h at = in_lap i 1 d h (let z : i ≡ length stem + (1 * length lap + d) = omega (arith, at) in z)
+  pub in_lap : (i d : ℕ) → d < length lap → (i ≡ length stem + d) ⊎ (i ≡ length stem + length lap + d) → length stem ≤ i
+      → (endless_run stem lap i ≡ get_or lap d (entry_of 0 0 0)) × (index_at stem lap i ≡ d)
+  unfolding endless_run index_at
+  in_lap i d h p l =
+      let q : ltb i (length stem) ≡ false = le-ltb i (length stem) l in
+      let r : (i - length stem) % length lap ≡ d = place i d h p in
+      (simp (q, r), simp (q, r))
 
-  -- a position is of pass 0, 1 or 2 exactly if it stands before the third time round
-  pub before_third : (i : ℕ) → (pass_at stem lap i < 3) ↔ (i < second_lap_lem + length lap)
-  before_third i = go (dec_lt i (length stem))
+  pub pass_first : (i : ℕ) → length stem ≤ i → i < second_lap_lem → pass_at stem lap i ≡ 1
+  unfolding pass_at
+  pass_first i h l =
+      let q : ltb i (length stem) ≡ false = le-ltb i (length stem) h in
+      let r : ltb i (length stem + length lap) ≡ true = lt-ltb i (length stem + length lap) l in
+      simp (q, r)
+
+  pub pass_second : (i : ℕ) → second_lap_lem ≤ i → i < second_lap_lem + length lap → pass_at stem lap i ≡ 2
+  unfolding pass_at
+  pass_second i h l =
+      let q : ltb i (length stem) ≡ false = le-ltb i (length stem) (let z : length stem ≤ i = omega arith in z) in
+      let r : ltb i (length stem + length lap) ≡ false = le-ltb i (length stem + length lap) h in
+      let t : ltb i (length stem + length lap + length lap) ≡ true = lt-ltb i (length stem + length lap + length lap) l in
+      simp (q, r, t)
+
+  -- before the third time there is no pass 3
+  pass_low : (i : ℕ) → i < second_lap_lem + length lap → pass_at stem lap i < 3
+  unfolding pass_at
+  pass_low i h = go (ltb i (length stem)) (ltb i (length stem + length lap))
     where
-      go : Dec (i < length stem) → (pass_at stem lap i < 3) ↔ (i < second_lap_lem + length lap)
-      go (yes h) =
-          let none : pass_at stem lap i ≡ 0 = (in_stem stem lap i h).2 in
-          ((λ low. omega arith), (λ early. omega (arith, none)))
-      go (no h) =
-          let is : pass_at stem lap i ≡ suc ((i - length stem) / length lap) =
-          behind_stem stem lap i (let z : length stem ≤ i = omega arith in z) in
-          let rounds = div-lt_iff_lt-mul {x = i - length stem} {y = 2} some in (
-            (λ low. let short : i - length stem < 2 * length lap =
-                rounds.0 (let z : (i - length stem) / length lap < 2 = omega (arith, is) in z) in omega (arith, short)),
-            (λ early. let few : (i - length stem) / length lap < 2 =
-                rounds.1 (let z : i - length stem < 2 * length lap = omega arith in z) in omega (arith, is, few)),
-          )
+      low : ltb i (length stem + length lap + length lap) ≡ true
+      low = lt-ltb i (length stem + length lap + length lap) h
+
+      go : (p q : Bool) → cond p 0 (cond q 1 (cond (ltb i (length stem + length lap + length lap)) 2 3)) < 3
+      go true q = omega arith
+      go false true = omega arith
+      go false false = simp low (omega arith)
 
   -- from the lap on the entries come again with every lap
   run_again : (i : ℕ) → length stem ≤ i → endless_run stem lap (i + length lap) ≡ endless_run stem lap i
@@ -120,17 +99,18 @@ module _ (stem lap : List Entry) (some : 0 < length lap) where
 
   pub stem_stands : chunk (endless_run stem lap) (length stem) 0 ≡ stem
   stem_stands = chunk_is (endless_run stem lap) (entry_of 0 0 0) stem 0
-      (λ k h. ap (endless_run stem lap) (let z : 0 + k ≡ k = omega arith in z) ∙ (in_stem stem lap k h).0)
+      (λ k h. ap (endless_run stem lap) (let z : 0 + k ≡ k = omega arith in z) ∙ (in_stem k h).0)
 
   pub lap_stands : chunk (endless_run stem lap) (length lap) first_lap_lem ≡ lap
   lap_stands =
       chunk_is (endless_run stem lap) (entry_of 0 0 0) lap first_lap_lem
-      (λ k h. (in_first (first_lap_lem + k) k h refl).0)
+      (λ k h. (in_lap (length stem + k) k h (inl refl) (let z : length stem ≤ length stem + k = omega arith in z)).0)
 
   pub lap_stands_again : chunk (endless_run stem lap) (length lap) second_lap_lem ≡ lap
   lap_stands_again =
       chunk_is (endless_run stem lap) (entry_of 0 0 0) lap second_lap_lem
-      (λ k h. (in_second (second_lap_lem + k) k h refl).0)
+      (λ k h. (in_lap (length stem + length lap + k) k h (inr refl)
+      (let z : length stem ≤ length stem + length lap + k = omega arith in z)).0)
 
   -- ---- what a lap does, done twice, is what it does once: the marking comes again
 
@@ -140,6 +120,9 @@ module _ (stem lap : List Entry) (some : 0 < length lap) where
 
     abbrev M : ℕ → Marking
     M i = marking_at g m e i
+
+    abbrev says : ℕ → Verdict
+    says i = verdict_at g m e i
 
     marking_again : M (second_lap_lem + length lap) ≡ M second_lap_lem
     marking_again =
@@ -152,9 +135,9 @@ module _ (stem lap : List Entry) (some : 0 < length lap) where
     entry_again : (i : ℕ) → second_lap_lem ≤ i → e (i + length lap) ≡ e i
     entry_again i h = run_again i (let z : length stem ≤ i = omega arith in z)
 
-    -- a lap that is allowed on its second pass is allowed from there on
-    pub laps_on : ((j : ℕ) → second_lap_lem ≤ j → j < second_lap_lem + length lap → TakenAt g m e j) → (i : ℕ) → second_lap_lem ≤ i → TakenAt g m e i
-    laps_on = taken_on g m e second_lap_lem (length lap) some entry_again marking_again
+    -- a lap allowed twice is allowed for ever
+    pub twice_for_ever : ((i : ℕ) → i < second_lap_lem + length lap → says i ≡ Verdict.Clear) → Unbarred g m e
+    twice_for_ever h = for_ever g m e second_lap_lem (length lap) some entry_again marking_again h
 
     -- the steps that wait throughout the second lap are those that starve
     pub second_decides : (w x : ℕ) → Throughout g m e second_lap_lem (length lap) w x → ((i s : ℕ) → DueAt g m e i s → has w s ≡ true)
@@ -164,3 +147,17 @@ module _ (stem lap : List Entry) (some : 0 < length lap) where
     -- a step that starves waits at every position from the end of the first lap on
     pub starving_laps : (s : ℕ) → Starving g m e s → (i : ℕ) → second_lap_lem ≤ i → Waiting g m e i s
     starving_laps = starving_from g m e second_lap_lem (length lap) some entry_again marking_again
+
+    -- pass 3 never occurs
+    pub never_later : graph_verdict g ≡ Verdict.Clear → Inside g.steps m → (k : ℕ) (r : Refusal) → Stops g m stem lap k Pass.Later r → ⊥
+    unfolding number_of_pass
+    never_later clear within k r s = go (dec_lt s.position (second_lap_lem + length lap))
+      where
+        go : Dec (s.position < second_lap_lem + length lap) → ⊥
+        go (yes h) = let low : pass_at stem lap s.position < 3 = pass_low s.position h in let is : 3 ≡ pass_at stem lap s.position =
+            s.pass in omega arith
+        go (no h) =
+            let all = twice_for_ever (λ i l. taken_clear g m e i (s.refused.before i (let z : i < s.position = omega arith in z))) in
+            let taken : TakenAt g m e s.position = moves_at g m e clear within s.position (λ j l. all j) (all s.position) in
+            let no : moved_at g m e s.position ≡ Move.Refused (M s.position) r = s.refused.here in
+            let z : ◌≡◌ {A = ℕ} 0 1 = cc in omega arith

@@ -10,20 +10,28 @@ use Rattle.sets.specs.Sets.{has}
 use Rattle.rules.specs.Graph.{Graph}
 use Rattle.moves.specs.declared.Marking.{Marking}
 use Rattle.moves.specs.declared.Entry.{Entry}
-use Rattle.moves.specs.declared.Move.{Move}
-use Rattle.rules.specs.Answers.{row_of, the_move}
+use Rattle.moves.specs.declared.Verdict.{Verdict}
+use Rattle.moves.specs.First.{first}
+use Rattle.rules.specs.Answers.{row_of, entry_lines}
 use Rattle.moves.specs.Move.{after}
-use Rattle.laps.specs.Endless.{marking_at, TakenAt, DueAt, DoneAt, ExcludedAt, Accepting, Waiting, Starving}
+use Rattle.laps.specs.Endless.{marking_at, DueAt, DoneAt, ExcludedAt, Accepting, Waiting, Starving}
+use Rattle.laps.specs.Inner.{verdict_at, Unbarred}
 use Rattle.laps.specs.Legs.{done_between, Ends, Throughout}
 
 module _ (g : Graph) (m : Marking) (e : ℕ → Entry) where
   abbrev M : ℕ → Marking
   M i = marking_at g m e i
 
+  abbrev says : ℕ → Verdict
+  says i = verdict_at g m e i
+
   -- the run looks the same at i and at j
   pub record Same (i j : ℕ) : Type 0 where
     pub marking : M i ≡ M j
     pub entry : e i ≡ e j
+
+  same_verdict : (i j : ℕ) → Same i j → says i ≡ says j
+  same_verdict i j f = ap₂ (λ (x : Marking) (y : Entry). first (entry_lines g x y)) f.marking f.entry
 
   same_due : (i j s : ℕ) → Same i j → has (M i).due s ≡ has (M j).due s
   same_due i j s f = ap (λ (x : Marking). has x.due s) f.marking
@@ -36,13 +44,6 @@ module _ (g : Graph) (m : Marking) (e : ℕ → Entry) where
 
   same_back : (i j : ℕ) → Same i j → Same j i
   same_back i j f = record { marking = sym f.marking; entry = sym f.entry }
-
-  same_taken : (i j : ℕ) → Same i j → TakenAt g m e i → TakenAt g m e j
-  unfolding marking_at
-  same_taken i j f t =
-      ap₂ (λ (x : Marking) (y : Entry). the_move g x y) (sym f.marking) (sym f.entry)
-      ∙ t
-      ∙ ap₂ (λ (x : Marking) (y : Entry). Move.Moved (after (row_of g y.person y.step.0) x y.step.0)) f.marking f.entry
 
   same_waiting : (i j s : ℕ) → Same i j → Waiting g m e i s → Waiting g m e j s
   same_waiting i j s f w =
@@ -123,19 +124,21 @@ module _ (g : Graph) (m : Marking) (e : ℕ → Entry) where
             let f : Same i (i - l) = subst (λ (x : ℕ). Same x (i - l)) (let z : i - l + l ≡ i = omega arith in z) (one_on (i - l) low) in
             (r.0, r.1, r.2, record { marking = f.marking ∙ r.3.marking; entry = f.entry ∙ r.3.entry })
 
-    -- what is so at every position of the first period is so from b on, if it is told by marking and entry
-    holds_on : (P : ℕ → Type 0) → ((i j : ℕ) → Same i j → P i → P j) → ((j : ℕ) → b ≤ j → j < b + l → P j) → (i : ℕ) → b ≤ i → P i
-    holds_on P same h i k =
-        let r = earlier i i (le_refl i) k in
-        same r.0 i (same_back i r.0 r.3) (h r.0 r.1 r.2)
-
-    -- entries that are allowed through the first period are allowed from b on
-    pub taken_on : ((j : ℕ) → b ≤ j → j < b + l → TakenAt g m e j) → (i : ℕ) → b ≤ i → TakenAt g m e i
-    taken_on = holds_on (λ i. TakenAt g m e i) same_taken
+    -- allowed through the first period: allowed for ever
+    pub for_ever : ((i : ℕ) → i < b + l → says i ≡ Verdict.Clear) → Unbarred g m e
+    for_ever h i = go (dec_lt i b)
+      where
+        go : Dec (i < b) → says i ≡ Verdict.Clear
+        go (yes p) = h i (let z : i < b + l = omega arith in z)
+        go (no p) =
+            let r = earlier i i (le_refl i) (let z : b ≤ i = omega arith in z) in
+            same_verdict i r.0 r.3 ∙ h r.0 r.2
 
     -- a step that waits through the first period waits from b on
     waits_on : (s : ℕ) → ((j : ℕ) → b ≤ j → j < b + l → Waiting g m e j s) → (i : ℕ) → b ≤ i → Waiting g m e i s
-    waits_on s = holds_on (λ i. Waiting g m e i s) (λ i j. same_waiting i j s)
+    waits_on s h i k =
+        let r = earlier i i (le_refl i) k in
+        same_waiting r.0 i s (same_back i r.0 r.3) (h r.0 r.1 r.2)
 
     -- a step that starves waits from b on
     pub starving_from : (s : ℕ) → Starving g m e s → (i : ℕ) → b ≤ i → Waiting g m e i s

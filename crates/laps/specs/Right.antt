@@ -25,14 +25,14 @@ use Rattle.journal.specs.Laws.{fits_threes, entries_length}
 use Rattle.laps.specs.declared.Lapped.{Lapped}
 use Rattle.laps.specs.declared.Pass.{Pass}
 use Rattle.laps.specs.declared.inner.Leg.{Leg}
-use Rattle.laps.specs.Endless.{TakenAt, GoesOn, marking_at, DueAt}
-use Rattle.laps.specs.Inner.{verdict_at, Unbarred, inside_until, taken_clear, moves_at, refuses_at}
+use Rattle.laps.specs.Endless.{GoesOn, marking_at, DueAt}
+use Rattle.laps.specs.Inner.{verdict_at, Unbarred, inside_until, moves_at, refuses_at}
 use Rattle.laps.specs.Laps.{endless_run, index_at, pass_at, number_of_pass, lengths_lines, empty_lines, lap_lines, LapAnswer}
 use Rattle.laps.specs.Decision.{leg_of, upon, judged, second_lap, first_lap, decision}
 use Rattle.laps.specs.Legs.{Throughout, Passed, Barred, leg_tells}
 use Rattle.laps.specs.Repeats.{Decides}
-use Rattle.laps.specs.Places.{in_stem, in_first, in_second, stem_stands, lap_stands, lap_stands_again, second_decides}
-use Rattle.laps.specs.Passes.{twice_goes_on}
+use Rattle.laps.specs.Places.{in_stem, in_lap, pass_first, pass_second, stem_stands, lap_stands, lap_stands_again, twice_for_ever}
+use Rattle.laps.specs.Places.{second_decides}
 use Rattle.laps.specs.Ways.{upon_ended, upon_stopped}
 
 -- ---- markings within the graph
@@ -102,9 +102,6 @@ module _ (g : Graph) (m : Marking) (stem lap : List ℕ) where
         go (yes l) = all j l
         go (no l) = p.allowed j (let z : i ≤ j = omega arith in z) h
 
-    taken_until : (i : ℕ) → Until i → (j : ℕ) → j < i → TakenAt g m e j
-    taken_until i all j h = moves_at g m e sound inside j (λ k l. all k (lt_trans l h)) (all j h)
-
     -- a leg that is stopped, in the pass that begins at i
     stopped_right : (i n : ℕ) (p : Pass) (leg : Leg) (rest : Marking → ℕ → Lapped) (b : Barred g m e i n 0 leg) → Until i
         → index_at S L (i + b.depth) ≡ b.depth → pass_at S L (i + b.depth) ≡ number_of_pass p → LapAnswer g m stem lap (upon leg p rest)
@@ -116,7 +113,7 @@ module _ (g : Graph) (m : Marking) (stem lap : List ℕ) where
             position = i + b.depth;
             refused =
                 record {
-                  before = taken_until (i + b.depth) before;
+                  before = λ j h. moves_at g m e sound inside j (λ k l. before k (lt_trans l h)) (before j h);
                   here =
                       refuses_at g m e sound inside (i + b.depth) b.refusal before b.here;
                 };
@@ -134,9 +131,9 @@ module _ (g : Graph) (m : Marking) (stem lap : List ℕ) where
             go (no l) = b.before j (let z : i ≤ j = omega arith in z) h
 
     -- what is left of the second lap decides
-    judged_right : GoesOn g m e → (x : ℕ) → Throughout g m e b₂ (length L) (full 64) x → LapAnswer g m stem lap (judged x)
+    judged_right : Unbarred g m e → (x : ℕ) → Throughout g m e b₂ (length L) (full 64) x → LapAnswer g m stem lap (judged x)
     unfolding LapAnswer
-    judged_right goes x kept = go (empty x) refl
+    judged_right on x kept = go (empty x) refl
       where
         in_64 : x < 2 ^ 64
         in_64 = lt_of_members 64 x (λ s h. at s h (has x s) refl)
@@ -146,8 +143,11 @@ module _ (g : Graph) (m : Marking) (stem lap : List ℕ) where
                 (let low : s < 64 = ltb-true s 64 (sym (has_full 64 s) ∙ (kept.only s q).0) in let z : ⊥ = omega arith in z)
             at s h false q = q
 
+        goes : GoesOn g m e
+        goes i = moves_at g m e sound inside i (λ j h. on j) (on i)
+
         decides : Decides g m e x
-        decides = second_decides S L some g m (full 64) x kept (due_known g m e sound inside (λ i. taken_clear g m e i (goes i)))
+        decides = second_decides S L some g m (full 64) x kept (due_known g m e sound inside on)
 
         go : (b : Bool) → empty x ≡ b → LapAnswer g m stem lap (cond b Lapped.Accepted (Lapped.Starved (record { 0 = lowest 64 x })))
         go true q = (clear, goes, decides.accepting (empty_members x q))
@@ -170,12 +170,13 @@ module _ (g : Graph) (m : Marking) (stem lap : List ℕ) where
         go (inl p) =
             subst (LapAnswer g m stem lap)
             (sym (upon_ended (leg_of g x L) Pass.Second (λ end y. judged y) (marking_at g m e (b₂ + length L)) p.left p.is))
-            (judged_right (twice_goes_on g m S L some (taken_until (b₂ + length L) (until_more b₂ (length L) (full 64) (leg_of g x L) all p)))
-            p.left p.kept)
+            (judged_right (twice_for_ever S L some g m (until_more b₂ (length L) (full 64) (leg_of g x L) all p)) p.left p.kept)
         go (inr b) =
             let low : b.depth < length L = b.small in
             stopped_right b₂ (length L) Pass.Second (leg_of g x L) (λ end y. judged y) b all
-            (in_second S L some (b₂ + b.depth) b.depth low refl).1 (in_second S L some (b₂ + b.depth) b.depth low refl).2
+            (in_lap S L some (b₂ + b.depth) b.depth low (inr refl) (let z : length S ≤ b₂ + b.depth = omega arith in z)).1
+            (pass_second S L some (b₂ + b.depth) (let z : b₂ ≤ b₂ + b.depth = omega arith in z)
+            (let z : b₂ + b.depth < b₂ + length L = omega arith in z))
 
     first_right : (x : Marking) → x ≡ marking_at g m e b₁ → Until b₁ → LapAnswer g m stem lap (first_lap g x L)
     unfolding first_lap number_of_pass
@@ -190,7 +191,9 @@ module _ (g : Graph) (m : Marking) (stem lap : List ℕ) where
         go (inr b) =
             let low : b.depth < length L = b.small in
             stopped_right b₁ (length L) Pass.First (leg_of g x L) (λ end y. second_lap g end L) b all
-            (in_first S L some (b₁ + b.depth) b.depth low refl).1 (in_first S L some (b₁ + b.depth) b.depth low refl).2
+            (in_lap S L some (b₁ + b.depth) b.depth low (inl refl) (let z : length S ≤ b₁ + b.depth = omega arith in z)).1
+            (pass_first S L some (b₁ + b.depth) (let z : b₁ ≤ b₁ + b.depth = omega arith in z)
+            (let z : b₁ + b.depth < b₂ = omega arith in z))
 
     -- the stem and two laps decide the run
     pub decision_right : LapAnswer g m stem lap (decision g m S L)
@@ -211,5 +214,5 @@ module _ (g : Graph) (m : Marking) (stem lap : List ℕ) where
         go (inr b) =
             let at : 0 + b.depth ≡ b.depth = omega arith in
             stopped_right 0 (length S) Pass.Stem (leg_of g m S) (λ end y. first_lap g end L) b none
-            (ap (index_at S L) at ∙ (in_stem S L b.depth b.small).1)
-            (ap (pass_at S L) at ∙ (in_stem S L b.depth b.small).2)
+            (ap (index_at S L) at ∙ (in_stem S L some b.depth b.small).1)
+            (ap (pass_at S L) at ∙ (in_stem S L some b.depth b.small).2)

@@ -9,12 +9,13 @@ use rules::Job;
 
 pub mod inner;
 
-// The stem, the lap's first time, its second. A lap that is allowed twice is allowed for ever.
+// The stem, the lap's first time, its second, any later one.
 #[derive(Drop)]
 pub enum Pass {
     Stem,
     First,
     Second,
+    Later,
 }
 
 // The run goes on for ever and is accepted; or it goes on and starves a step, the lowest such. Refused before any entry is looked at; or

@@ -14,6 +14,7 @@ fn pass(p: Pass) -> u64
         Pass::Stem => 0,
         Pass::First => 1,
         Pass::Second => 2,
+        Pass::Later => 3,
     }
 }
 

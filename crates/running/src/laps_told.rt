@@ -15,6 +15,7 @@ fn say_pass(page: &mut Page, p: Pass) {
         Pass::Stem => say(page, b"pass: 0, stem\n"),
         Pass::First => say(page, b"pass: 1, first lap\n"),
         Pass::Second => say(page, b"pass: 2, second lap\n"),
+        Pass::Later => say(page, b"pass: 3, later lap\n"),
     }
 }
 

@@ -1,3 +1,2 @@
 pub mod Job
 pub mod Samples
-pub mod Passes

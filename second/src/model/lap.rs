@@ -32,8 +32,8 @@ fn endless(g: &Graph, mut at: Marking, stem: &[Entry], lap: &[Entry]) -> Lapped 
         }
         starts.push((at.clone(), run.len()));
         if let Err(stopped) = go(g, &mut at, lap, &mut run) {
-            // The stem is pass 0. That no lap is first refused later than on pass 2 is not known here.
-            return Lapped { pass: starts.len() as u64, ..stopped };
+            // The stem is pass 0, and every lap from the third on is 3.
+            return Lapped { pass: starts.len().min(3) as u64, ..stopped };
         }
     }
 }

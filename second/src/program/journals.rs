@@ -143,6 +143,6 @@ fn named<'a>(pass: u64, stem: &'a Input, lap: &'a Input) -> (&'static str, &'a I
         0 => ("stem", stem),
         1 => ("first lap", lap),
         2 => ("second lap", lap),
-        _ => unreachable!("a lap that is allowed twice is allowed for ever"),
+        _ => ("later lap", lap),
     }
 }

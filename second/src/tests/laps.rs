@@ -41,32 +41,6 @@ fn a_step_that_excludes_itself_passes_once() {
     assert_eq!(Both::new(g).lap(Marking::new(0, 0, 1), &[], &[0, 0, 0]), refused(14, 0, 2));
 }
 
-/// The lap written out as often as a journal has room for, up to six times: allowed twice it is allowed each time, and what is
-/// refused is so where index and pass say.
-#[test]
-fn allowed_twice_is_allowed_each_time() {
-    let mut came = BTreeSet::new();
-    for case in 0..3_000 {
-        let laps::Lap { graph, marking, stem, lap } = laps::make(&mut Dice::new(20, case));
-        let job = Both::new(graph);
-        let Lapped { number, waiting, index, pass, .. } = job.lap(marking, &stem, &lap);
-        let passes = (65_535_usize.saturating_sub(stem.len()) / lap.len().max(1)).min(6);
-        if passes <= 2 || !matches!(number, 0 | 11..=15) {
-            continue;
-        }
-        let ran = job.run(marking, &[&stem[..], &lap.repeat(passes)].concat());
-        let [in_stem, in_lap] = [&stem, &lap].map(|journal| journal.len() as u64 / 3);
-        let entries = match (number, pass) {
-            (0, _) => in_stem + passes as u64 * in_lap,
-            (_, 0) => index,
-            _ => in_stem + (pass - 1) * in_lap + index,
-        };
-        assert_eq!((ran.number, ran.waiting, ran.entries), (number, waiting, entries), "case {case}");
-        came.insert((number.min(11), pass));
-    }
-    assert_eq!(came, BTreeSet::from([(0, 0), (11, 0), (11, 1), (11, 2)]));
-}
-
 #[test]
 fn seen_not_included_is_enough() {
     // Step 0 makes 1 due and excludes it, and step 2 includes it again: it is due for ever, and left out now and then.

@@ -19,7 +19,7 @@ const FIRST: &[Kind] = &[
 ];
 
 /// Of the second, where only what depends on the marking can be new. Its step has been done by then, and is not among those that
-/// are waited for. No lap is refused on a third pass: a lap that is allowed twice is allowed for ever.
+/// are waited for. No later lap is refused.
 const SECOND: &[Kind] = &[
     (512 + 14, "  in the second lap"),
     (512 + WAITS_FOR_ONE.0, "  in the second lap, for one"),

@@ -13,6 +13,9 @@ enum-told-2 c = search rules
 enum-told-3 : tie.Need-enum-told-3
 enum-told-3 c = search rules
 
+enum-told-4 : tie.Need-enum-told-4
+enum-told-4 c = search rules
+
 returns : tie.Need-returns
 unfolding number_of_pass
 returns c = search rules
@@ -25,7 +28,11 @@ returns-3 : tie.Need-returns-3
 unfolding number_of_pass
 returns-3 c = search rules
 
+returns-4 : tie.Need-returns-4
+unfolding number_of_pass
+returns-4 c = search rules
+
 pub pass_spec : {M : Type 1} → statement M
 pass_spec =
     tie.close
-    (tie.spec enum_told enum-told-2 enum-told-3 returns returns-2 returns-3)
+    (tie.spec enum_told enum-told-2 enum-told-3 enum-told-4 returns returns-2 returns-3 returns-4)
