@@ -12,7 +12,8 @@ use Rattle.moves.specs.declared.Entry.{Entry}
 use Rattle.moves.specs.declared.Move.{Move}
 use Rattle.moves.specs.Move.{after, is_finished}
 use Rattle.rules.specs.Answers.{the_move, row_of}
-use Rattle.rules.specs.Paper.{Ready, Allowed, taken_allowed}
+use Rattle.rules.specs.Paper.{Ready, Allowed}
+use Rattle.rules.proofs.Taken.{taken_allowed}
 use Rattle.runs.specs.Runs.{Passes, passes_parts}
 use Rattle.bodies.specs.Tables.{tabled, length_tabled}
 use Rattle.cabinet.specs.Cabinet.{reboot, publish, cabinet, at_first, arms_fit}

@@ -13,7 +13,7 @@ use Rattle.rules.specs.declared.Ending.{Ending}
 use Rattle.rules.specs.Graph.{graph_verdict}
 use Rattle.rules.specs.Answers.{the_asked, the_ending}
 use Rattle.rules.specs.Laws.{ending_clear, ending_inside}
-use Rattle.rules.specs.Paper.{asked_allowed}
+use Rattle.rules.proofs.Taken.{asked_allowed}
 use Rattle.journal.specs.declared.Ran.{Ran}
 use Rattle.journal.specs.Journal.{entries}
 use Rattle.journal.specs.Run.{the_run}

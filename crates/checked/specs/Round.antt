@@ -20,7 +20,8 @@ use Rattle.moves.specs.Move.{entry_of, after, is_finished}
 use Rattle.moves.specs.Inside.{Inside, inside_fits}
 use Rattle.rules.specs.declared.Ending.{Ending}
 use Rattle.rules.specs.Answers.{the_asked, the_move, the_ending, row_of}
-use Rattle.rules.specs.Paper.{Ready, Allowed, allowed_asked, allowed_taken}
+use Rattle.rules.specs.Paper.{Ready, Allowed}
+use Rattle.rules.proofs.Taken.{allowed_asked, allowed_taken}
 use Rattle.tables.specs.Tables.{row}
 use Rattle.journal.specs.declared.Ran.{Ran}
 use Rattle.journal.specs.Journal.{entries, length_fits}

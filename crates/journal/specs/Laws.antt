@@ -115,13 +115,6 @@ unfolding run_on go_on
 run_refused g m back r j k h e =
     ap (run_on g m k) (entries_from j k h) ∙ ap (λ (o : Move). go_on k m o (λ n. run_on g n (k + 1) (entries (drop (3 * k + 3) j)))) e
 
--- with the refusal that `ask` gives
-pub run_stopped : (g : Graph) (m : Marking) (j : List ℕ) (k : ℕ) → 3 * k + 3 ≤ length j → is_allowed g m (entry_at j k) ≡ false
-    → run_on g m k (entries (drop (3 * k) j)) ≡ Ran.Stopped k m (refusal_in (entry_asked g m (entry_at j k)))
-run_stopped g m j k h out =
-    let f = refused_moved g m (entry_at j k) out in
-    run_refused g m f.0 (refusal_in (entry_asked g m (entry_at j k))) j k h f.1
-
 -- it is: the run goes on behind it
 pub run_moved : (g : Graph) (m next : Marking) (j : List ℕ) (k : ℕ) → 3 * k + 3 ≤ length j → entry_move g m (entry_at j k) ≡ Move.Moved next
     → run_on g m k (entries (drop (3 * k) j)) ≡ run_on g next (k + 1) (entries (drop (3 * (k + 1)) j))

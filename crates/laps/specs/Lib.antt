@@ -6,5 +6,3 @@ pub mod Legs
 pub mod Repeats
 pub mod Places
 pub mod Ways
-pub mod Right
-pub mod Laws

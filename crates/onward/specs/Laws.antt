@@ -4,7 +4,7 @@ use Rattle.std.specs.Prelude.{ℕ, ◌≡◌, List}
 use Rattle.std.proofs.Common.{sym, ap, ◌∙◌}
 use Rattle.moves.specs.declared.Marking.{Marking}
 use Rattle.rules.specs.Graph.{Graph}
-use Rattle.laps.specs.Laws.{one_answer}
+use Rattle.laps.proofs.Laws.{one_answer}
 use Rattle.onward.specs.declared.Lapped.{Lapped}
 use Rattle.onward.specs.Endless.{LapTold, lapped_of}
 

@@ -35,7 +35,7 @@ use Rattle.rounds.specs.Tests.{layout_exactly}
 use Rattle.bodies.specs.Markings.{marking_read}
 use Rattle.rounds.specs.Bodies.{counts_read, rows_read, kept_roles, roles_fit_lem, kept_labels, labels_rows, labels_fit_lem}
 use Rattle.rounds.specs.Arrows.{table_fit, table_read}
-use Rattle.rounds.specs.Longest.{longest, shortest}
+use Rattle.rounds.specs.Longest.{below_longest, shortest}
 
 -- the contents fit, and lead to the bodies of the graph and the marking
 record Carries (g : Graph) (m : Marking) (s : List ℕ) : Type 0 where
@@ -55,7 +55,8 @@ unfolding sheet_bytes bodies_from
 carried block m e =
     let g : Graph = graph_of block in
     let least : 64 ≤ length (sheet_bytes (graph_of block) m) = shortest block m e in
-    let most : length (sheet_bytes (graph_of block) m) ≤ 37147 = longest block m e in
+    let most : length (sheet_bytes (graph_of block) m) ≤ 37147 =
+    let below : length (sheet_bytes (graph_of block) m) < 37148 = below_longest block m e in omega arith in
     let small : length (sheet_bytes (graph_of block) m) < 65536 = omega arith in
     let few : length (bodies_of (graph_of block) m) < 256 = omega arith in
     let bodies : bodies_from 6 0 (sheet_bytes (graph_of block) m) ≡ bodies_of (graph_of block) m = laid_bodies (bodies_of g m) small few in

@@ -67,8 +67,3 @@ pub five_read : Says smallest_five smallest_block smallest_marking
 unfolding smallest_five smallest_block smallest_marking read_verdict block_read form_of labels_part own_steps first layout_fits follows number
     role_sets_fit actions_fit every arrows_in all_link ascending put_all put tabled
 five_read = record { clear = refl; job = refl; marking = refl }
-
--- and written with six
-pub five_written : sheet_bytes (graph_in smallest_five) (first_of smallest_five) ≡ smallest
-five_written =
-    ap₂ (λ (block : List ℕ) (m : Marking). sheet_bytes (graph_of block) m) five_read.job five_read.marking ∙ smallest_written

@@ -1,4 +1,5 @@
--- The paper's Definitions 3, 4 and 5, item by item, and that the move is what they say. docs/RULES.md holds them beside the paper's text.
+-- The paper's Definitions 3, 4 and 5, item by item; proofs/Taken.antt has that the move is what they say. docs/RULES.md holds them beside the
+-- paper's text.
 -- Assumes nothing.
 use Rattle.std.specs.Prelude.{ℕ, ◌<◌, ◌≤◌, ◌≡◌, refl, ◌++◌, Bool, true, false, not, ◌&&◌, ◌||◌, eqb}
 use Rattle.std.proofs.Common.{sym, ap, ap₂, ◌∙◌}
@@ -15,10 +16,9 @@ use Rattle.moves.specs.First.{first, number_of_verdict, number_of}
 use Rattle.rules.specs.Answers.{the_asked, the_move, move_lines, entry_lines, marking_lines, entry_known, row_of, after_entry}
 use Rattle.rules.specs.Answers.{number_of_ending, ending_of, the_ending}
 use Rattle.moves.specs.Move.{asked_of, move_of, row_lines, after, waits_for, is_finished, marking_fits, number_of_move}
-use Rattle.moves.specs.Given.{ascends, holds, first_lowest, clear_head, clear_tail, clear_front, clear_back, first_clear}
+use Rattle.moves.specs.Given.{ascends, holds, first_lowest, clear_head, clear_tail}
 use Rattle.rules.specs.Signs.{◌∩◌, ◌∖◌, ◌∪◌, ◌∈◌, Ex, Re, In}
-use Rattle.rules.specs.Asking.{allowed_of, asked_taken, asked_number, asked_lines}
-use Rattle.rules.specs.Entries.{moved_after}
+use Rattle.rules.specs.Asking.{asked_number, asked_lines}
 
 -- ---- Definition 3: the relations
 
@@ -103,42 +103,6 @@ pub record Ready (g : Graph) (m : Marking) (e : Entry) : Type 0 where
   pub graph : graph_verdict g ≡ Verdict.Clear
   pub marking : marking_fits g.steps m ≡ true
   pub names : entry_known g e ≡ true
-
--- Definitions 4 (iii), (iv) and 5, from left to right: what `ask` allows is allowed
-pub asked_allowed : (g : Graph) (m : Marking) (e : Entry) → the_asked g m e ≡ Asked.Allowed → Ready g m e × Allowed g m e
-unfolding the_asked
-asked_allowed g m e q =
-    let c : first (move_lines g m e) ≡ Verdict.Clear = allowed_of (first (move_lines g m e)) q in
-    let rest : first (marking_lines g m ++ entry_lines g m e) ≡ Verdict.Clear =
-    clear_back (graph_lines g) (marking_lines g m ++ entry_lines g m e) c in
-    let entry : first (entry_lines g m e) ≡ Verdict.Clear = clear_tail _ _ rest in (
-      record {
-        graph = clear_front (graph_lines g) (marking_lines g m ++ entry_lines g m e) c;
-        marking = not-false (marking_fits g.steps m) (clear_head _ _ rest);
-        names = not-false (entry_known g e) (clear_head _ _ entry);
-      },
-      lines_allowed g m e (clear_tail _ _ entry),
-    )
-
--- and from right to left
-pub allowed_asked : (g : Graph) (m : Marking) (e : Entry) → Ready g m e → Allowed g m e → the_asked g m e ≡ Asked.Allowed
-unfolding the_asked asked_of first
-allowed_asked g m e r w =
-    let rest : first (marking_lines g m ++ entry_lines g m e) ≡ Verdict.Clear = simp (r.marking, r.names, allowed_lines g m e w) in
-    ap asked_of (first_clear (graph_lines g) (marking_lines g m ++ entry_lines g m e) r.graph ∙ rest)
-
--- Definition 4 (i) to (vi) with Definition 5, from left to right: a step taken was allowed, and leads to the marking after
-pub taken_allowed : (g : Graph) (m x : Marking) (e : Entry) → the_move g m e ≡ Move.Moved x
-    → Ready g m e × Allowed g m e × (x ≡ after (row_of g e.person e.step.0) m e.step.0)
-taken_allowed g m x e q =
-    let both = asked_allowed g m e ((asked_taken g m e).1 (x, q)) in
-    (both.0, both.1, sym (moved_after g m x e q))
-
--- and from right to left: what is allowed is taken
-pub allowed_taken : (g : Graph) (m : Marking) (e : Entry) → Ready g m e → Allowed g m e
-    → the_move g m e ≡ Move.Moved (after (row_of g e.person e.step.0) m e.step.0)
-unfolding the_move move_of
-allowed_taken g m e r w = ap (λ (o : Asked). move_of o m (after_entry g m e)) (allowed_asked g m e r w)
 
 -- ---- the number is exactly the first of the table that holds
 

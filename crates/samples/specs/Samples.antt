@@ -16,7 +16,7 @@ use Rattle.folding.specs.Answers.{the_fold}
 use Rattle.laps.specs.declared.Lapped.{Lapped}
 use Rattle.laps.specs.Laps.{LapAnswer}
 use Rattle.laps.specs.Decision.{go_through, leg_on, upon, second_lap, first_lap, decision, lap_of, the_lap}
-use Rattle.laps.specs.Laws.{the_lap_right}
+use Rattle.laps.proofs.Laws.{the_lap_right}
 use Rattle.tracker.specs.Tracker.{the_start, the_step, track_after, tracked_of}
 use Rattle.samples.specs.Job.{set, rows, targets, sources, table, given, answered, job, first_marking}
 use Rattle.samples.specs.Job.{reboot, check, publish, rebooted, checked, at, tracking, journal, folded}

@@ -155,17 +155,6 @@ above_members i p s = has_minus p (full i) s ∙ ap (λ (b : Bool). has p s && n
     turn (yes h) = simp (lt-ltb s i h, le-ltb i (s + 1) (omega arith))
     turn (no h) = simp (le-ltb s i (omega arith), lt-ltb i (s + 1) (omega arith))
 
--- x exists exactly if P is not empty
-pub pool_empty : (i p : ℕ) → empty (pool i p) ≡ empty p
-pool_empty i p = go (empty (above i p)) refl (empty p) refl
-  where
-    go : (h : Bool) → empty (above i p) ≡ h → (k : Bool) → empty p ≡ k → empty (cond (empty (above i p)) p (above i p)) ≡ empty p
-    go true eh k ek = ap (λ (b : Bool). empty (cond b p (above i p))) eh
-    go false eh false ek = ap (λ (b : Bool). empty (cond b p (above i p))) eh ∙ eh ∙ sym ek
-    go false eh true ek =
-        absurd (true≢false (sym
-        (members_empty (above i p) (λ s. above_members i p s ∙ ap (λ (b : Bool). b && ltb i (rank_of s)) (empty_members p ek s))) ∙ eh))
-
 -- ---- the rule, by its cases
 
 and_false_right : (a b : Bool) → b ≡ false → (a && b) ≡ false

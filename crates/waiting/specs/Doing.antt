@@ -12,7 +12,8 @@ use Rattle.moves.specs.Inside.{Inside, fits_inside, inside_fits}
 use Rattle.rules.specs.Graph.{Graph}
 use Rattle.rules.specs.Answers.{row_of, the_move}
 use Rattle.rules.specs.Signs.{◌∈◌, Ex, In}
-use Rattle.rules.specs.Paper.{condition, Ready, allowed_taken, after_done}
+use Rattle.rules.specs.Paper.{condition, Ready, after_done}
+use Rattle.rules.proofs.Taken.{allowed_taken}
 use Rattle.rules.specs.Entries.{moved_after}
 use Rattle.journal.specs.declared.Ran.{Ran}
 use Rattle.journal.specs.Run.{marking_of_run}

@@ -16,7 +16,7 @@ use Rattle.journal.specs.Journal.{length_fits}
 use Rattle.journal.specs.Laws.{fits_threes, fits_most}
 use Rattle.laps.specs.Laps.{LapAnswer}
 use Rattle.laps.specs.Ways.{lines_graph, lines_length, lines_outside, lines_empty, lines_clear}
-use Rattle.laps.specs.Right.{decision_right}
+use Rattle.laps.proofs.Right.{decision_right}
 use Rattle.laps.proofs.lap.Statement.{statement}
 use Rattle.laps.proofs.lap.Tie as tie
 

@@ -21,7 +21,7 @@ use Rattle.laps.specs.Endless.{marking_at, moved_at, TakenAt, DoneAt, ExcludedAt
 use Rattle.laps.specs.Laps.{endless_run, index_at, pass_at, number_of_pass, lap_lines, Stops, LapAnswer}
 use Rattle.laps.specs.Decision.{decision, lap_of, the_lap}
 use Rattle.laps.specs.Places.{never_later}
-use Rattle.laps.specs.Right.{some, sound, inside, decision_right}
+use Rattle.laps.proofs.Right.{some, sound, inside, decision_right}
 
 -- ---- any endless run
 

@@ -1,0 +1,2 @@
+-- A theorem that rests on the bytes of the smallest sheet.
+pub mod Smallest

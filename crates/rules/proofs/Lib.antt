@@ -1,0 +1,2 @@
+-- Theorems that rest on the definitions of specs/Paper.antt.
+pub mod Taken

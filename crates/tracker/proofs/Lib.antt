@@ -1,0 +1,2 @@
+-- A theorem that rests on the definition of H.
+pub mod Pool
