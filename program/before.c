@@ -1,5 +1,5 @@
-// The program is proved as a function that answers its exit status; C's start calls it. A write past a limit, or to nobody, is to
-// fail and not to end the process: then the temporary file goes, and the status says it.
+// What is done before the program's proved main begins. A write past a limit is to fail and not to end the process: then the temporary
+// file goes, and the status says it. (A write to nobody fails already: Rattle's own start sees to it.)
 //
 // Two takes of one journal go one after the other, or both would be tested against the same journal, and the later one could put an
 // entry there that is not allowed any more. So a take locks the journal until the process ends, and before it the folder, since the
@@ -10,8 +10,6 @@
 #include <string.h>
 #include <sys/file.h>
 #include <sys/stat.h>
-
-int ulz_program(void);
 
 // Only what is of that kind: a folder that is named as a journal would be locked twice, and a pipe's other end would hear of it.
 static void lock(const char *name, mode_t kind) {
@@ -39,13 +37,12 @@ static char *journal_to_take(int count, char **words) {
     return NULL;
 }
 
-int main(int count, char **words) {
-    signal(SIGPIPE, SIG_IGN);
+// glibc hands a constructor what it hands main.
+__attribute__((constructor)) static void before(int count, char **words) {
     signal(SIGXFSZ, SIG_IGN);
     char *journal = journal_to_take(count, words);
     if (journal != NULL) {
         lock(dirname(strdup(journal)), S_IFDIR);
         lock(journal, S_IFREG);
     }
-    return ulz_program();
 }
