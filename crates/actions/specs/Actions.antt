@@ -6,14 +6,13 @@ use Rattle.std.proofs.Math.Bool.{true, false}
 use native.Mathlib.Omega.{arith}
 use Rattle.sets.specs.Sets.{has, empty}
 use Rattle.moves.specs.declared.Marking.{Marking}
-use Rattle.moves.specs.declared.Refusal.{Refusal}
 use Rattle.moves.specs.declared.Refusal.TheVariants.{Unknown, NotHeld, NotOnStep, Excluded, Waits}
 use Rattle.moves.specs.declared.Verdict.{Verdict}
 use Rattle.moves.specs.First.{Line, first, number_of, number_of_verdict}
 use Rattle.moves.specs.Given.{first_clear, first_refused}
 use Rattle.moves.specs.Move.{entry_of, waits_for, number_of_asked}
 use Rattle.rules.specs.Graph.{Graph, graph_lines, action_of, roles_of, roles_of_action, roles_held, conditions_of}
-use Rattle.rules.specs.Answers.{the_asked, move_lines, marking_lines}
+use Rattle.rules.specs.Answers.{the_asked, marking_lines}
 use Rattle.rules.specs.Asking.{asked_lines}
 
 module _ (g : Graph) (a b : ℕ) (same : action_of g a ≡ action_of g b) where

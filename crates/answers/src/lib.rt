@@ -1,5 +1,7 @@
 // The answers to the calls of the border, as structs of words. A number is 0 where a call is answered. With 15 `waiting` is the set
 // of all steps that are waited for, and with every other number 0. What a number leaves without a value is 0.
+#![tactic(auto)]
+
 use moves::{Entry, Marking};
 
 pub mod folded;
@@ -8,7 +10,7 @@ pub mod told;
 
 // `finished` is 1 where no step is both due and included.
 #[repr(C)]
-#[derive(Drop)]
+#[derive(Clone, Copy)]
 pub struct Ending {
     pub number: u64,
     pub finished: u64,
@@ -16,7 +18,7 @@ pub struct Ending {
 
 // Nothing but whether the entry is allowed.
 #[repr(C)]
-#[derive(Drop)]
+#[derive(Clone, Copy)]
 pub struct Asked {
     pub number: u64,
     pub waiting: u64,
@@ -24,7 +26,7 @@ pub struct Asked {
 
 // The steps that are allowed.
 #[repr(C)]
-#[derive(Drop)]
+#[derive(Clone, Copy)]
 pub struct Allowed {
     pub number: u64,
     pub steps: u64,
@@ -32,7 +34,7 @@ pub struct Allowed {
 
 // The marking after, or from 11 on the marking handed in.
 #[repr(C)]
-#[derive(Drop)]
+#[derive(Clone, Copy)]
 pub struct Moved {
     pub number: u64,
     pub waiting: u64,
@@ -41,7 +43,7 @@ pub struct Moved {
 
 // Beside a marking that is changed where it lies.
 #[repr(C)]
-#[derive(Drop)]
+#[derive(Clone, Copy)]
 pub struct Kept {
     pub number: u64,
     pub waiting: u64,
@@ -49,7 +51,7 @@ pub struct Kept {
 
 // How many entries passed, which is the index of the refused one; and the marking after them.
 #[repr(C)]
-#[derive(Drop)]
+#[derive(Clone, Copy)]
 pub struct Ran {
     pub number: u64,
     pub waiting: u64,
@@ -59,7 +61,7 @@ pub struct Ran {
 
 // `ended` is 1 where no entry is left.
 #[repr(C)]
-#[derive(Drop)]
+#[derive(Clone, Copy)]
 pub struct Walked {
     pub number: u64,
     pub ended: u64,
@@ -68,7 +70,7 @@ pub struct Walked {
 
 // How many bytes are written.
 #[repr(C)]
-#[derive(Drop)]
+#[derive(Clone, Copy)]
 pub struct Written {
     pub number: u64,
     pub length: u64,

@@ -22,7 +22,7 @@ const NOBODY: Entry = Entry {
 };
 
 // What a refusal says, in words.
-#[derive(Drop)]
+#[derive(Clone, Copy)]
 pub struct Words {
     pub number: u64,
     pub waiting: u64,

@@ -1,5 +1,7 @@
 // The arrows of a sheet: three bytes each, kind, from, to, strictly ascending. They are read into one table of 256 rows, a row for each
 // kind and step, and written from it.
+#![tactic(auto)]
+
 ghost use Rattle.std.specs.Prelude.{◌≡◌, ◌+◌, ◌*◌, ◌%◌, ◌<◌, ◌≤◌, length};
 ghost use Rattle.tables.specs.Tables.{row};
 ghost use Rattle.numbers.specs.Numbers.{Spliced};

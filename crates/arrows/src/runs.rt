@@ -7,14 +7,14 @@ ghost use Rattle.arrows.specs.Loops.{passes, arrow_in};
 ghost use Rattle.arrows.specs.Runs.{goes_on, pointed, Begins, Taken, Collected};
 
 // Where a run stops, and the least place that an arrow there may have.
-#[derive(Drop)]
+#[derive(Clone, Copy)]
 pub struct Stop {
     pub at: usize,
     pub next: usize,
 }
 
 // The same, with the steps that the arrows of the run point at.
-#[derive(Drop)]
+#[derive(Clone, Copy)]
 pub struct Run {
     pub at: usize,
     pub next: usize,

@@ -1,5 +1,5 @@
 -- The bodies of a sheet, written and read.
-use Rattle.std.specs.Prelude.{ℕ, zero, suc, ◌+◌, ◌*◌, ◌/◌, List, [], ◌++◌, Bool, cond, length, get_or, drop, ltb}
+use Rattle.std.specs.Prelude.{ℕ, zero, suc, ◌*◌, ◌/◌, List, [], ◌++◌, Bool, cond, length, get_or, drop, ltb}
 use Rattle.sets.specs.Sets.{within, every}
 use Rattle.moves.specs.declared.Marking.{Marking}
 use Rattle.tables.specs.Tables.{row}

@@ -1,5 +1,5 @@
 -- A marking as bytes: reading what was written gives the marking, and writing what was read gives the bytes. Assumes nothing.
-use Rattle.std.specs.Prelude.{ℕ, ◌+◌, ◌-◌, ◌^◌, ◌<◌, ◌≡◌, List, [], ◌++◌, length, take, drop}
+use Rattle.std.specs.Prelude.{ℕ, ◌-◌, ◌^◌, ◌<◌, ◌≡◌, List, [], ◌++◌, length, take, drop}
 use Rattle.std.proofs.Common.{sym, ap, ap₂, ◌∙◌, append-nil, arith, length-drop, take-add, take_all, drop-drop}
 use Rattle.moves.specs.declared.Marking.{Marking}
 use Rattle.numbers.specs.Numbers.{number, bytes, Bytes}

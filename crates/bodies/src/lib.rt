@@ -1,4 +1,6 @@
 // A reader and a writer for each body of a sheet.
+#![tactic(auto)]
+
 ghost use Rattle.std.specs.Prelude.{◌≡◌, ◌+◌, ◌*◌, ◌%◌, ◌<◌, ◌≤◌, length};
 ghost use Rattle.numbers.specs.Numbers.{Spliced};
 ghost use Rattle.bodies.specs.Bodies.{counts_body, counts_in, marking_body, marking_in, rows_body, set_at, sets_in, role_sets_fit};
@@ -6,7 +8,7 @@ ghost use Rattle.bodies.specs.Bodies.{label_at, labels_in, actions_fit};
 
 use moves::Marking;
 
-#[derive(Drop)]
+#[derive(Clone, Copy)]
 pub struct Counts {
     pub steps: u64,
     pub people: u64,

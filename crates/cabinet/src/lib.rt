@@ -1,4 +1,6 @@
 // The cabinet's own package: the sheet of the job for a mast with so many arms.
+#![tactic(auto)]
+
 ghost use Rattle.std.specs.Prelude.{◌≡◌, length};
 ghost use Rattle.cabinet.specs.Cabinet.{the_cabinet, cabinet_after};
 

@@ -1,7 +1,7 @@
 -- Neither sentence is empty: from wherever the job stands a whole round can be run, it publishes, and the job is finished after it, while at
 -- the start it is not. And the desk may publish exactly when all checks have occurred. Assumes nothing.
 use Prim.Native.Nat.{ℕ, zero, suc, ◌+◌, ◌*◌, ◌%◌, ◌≤◌, ◌<◌}
-use Rattle.std.specs.Prelude.{◌≡◌, ◌↔◌, Bool, true, false, cond}
+use Rattle.std.specs.Prelude.{◌≡◌, ◌↔◌, Bool, true, cond}
 use Rattle.std.proofs.Math.Path.{refl, ap, subst}
 use Rattle.std.proofs.Common.{sym, ◌∙◌, true≢false, length-append, lit<, lt-ltb, eq-eqb, le-leb}
 use mathlib.Core.List.{List, [], ◌∷◌, ◌++◌}

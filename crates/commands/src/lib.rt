@@ -1,4 +1,5 @@
 // The commands, what each takes, and which one a word means.
+#![tactic(auto)]
 pub mod nearest;
 pub mod words;
 

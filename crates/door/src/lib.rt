@@ -1,5 +1,7 @@
 // The border to C, which include/ulzhartep.h declares. A graph is lent as one block; markings, entries and states go by value; bytes are
 // lent with their length; an answer is a struct of words. Lent memory is written only where the number is 0.
+#![tactic(auto)]
+
 ghost use Rattle.std.specs.Prelude.{◌≡◌, length};
 ghost use Rattle.moves.specs.First.{number_of_verdict};
 ghost use Rattle.moves.specs.Move.{number_of_asked, waiting_of_asked, number_of_move, waiting_of_move, marking_of_move};

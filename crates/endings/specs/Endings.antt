@@ -1,6 +1,6 @@
 -- What the dead-end report says, in the words of the request: each answer exactly when, over journals as they are lent and run. No code rests
 -- on these. A marking that is finished is found at a place; the first such place has the fewest entries. Assumes nothing.
-use Prim.Native.Nat.{ℕ, zero, suc, ◌+◌, ◌-◌, ◌*◌, ◌%◌, ◌≤◌, ◌<◌, zero-le}
+use Prim.Native.Nat.{ℕ, zero, suc, ◌+◌, ◌*◌, ◌%◌, ◌≤◌, ◌<◌, zero-le}
 use Rattle.std.specs.Prelude.{◌≡◌, ◌↔◌, List, [], ◌∷◌, ◌++◌, Bool, true, false, not, cond, get_or, ltb, leb}
 use Rattle.std.proofs.Math.Path.{refl, ap, subst}
 use Rattle.std.proofs.Common.{sym, ◌∙◌, true≢false, ltb-true, ltb-false, leb-true, leb-false, eq-eqb, le-leb}

@@ -1,4 +1,5 @@
 // Arguments, files read whole and files written, with one line on standard error where one of them will not do.
+#![tactic(auto)]
 pub mod appending;
 pub mod arguments;
 pub mod complaints;

@@ -1,4 +1,6 @@
 // Folding journals into records, and going on from a record.
+#![tactic(auto)]
+
 ghost use Rattle.std.specs.Prelude.{◌≡◌};
 ghost use Rattle.rules.specs.Graph.{graph_of};
 ghost use Rattle.folding.specs.Answers.{the_fold, the_restoring};

@@ -1,4 +1,6 @@
 // Which steps are not grey: those that a person may take now in some role, and those that someone may.
+#![tactic(auto)]
+
 ghost use Rattle.std.specs.Prelude.{◌≡◌};
 ghost use Rattle.rules.specs.Graph.{graph_of};
 ghost use Rattle.greying.specs.Greying.{the_choice, the_choice_of_all};
@@ -10,7 +12,7 @@ use rules::Job;
 pub mod inner;
 
 // The steps to choose from, if any.
-#[derive(Drop)]
+#[derive(Clone, Copy)]
 pub enum Choice {
     Steps(u64),
     Refused(Refusal),

@@ -11,12 +11,11 @@ use Rattle.moves.specs.declared.Refusal.TheVariants.{Length, Outside}
 use Rattle.moves.specs.declared.Verdict.{Verdict}
 use Rattle.moves.specs.declared.Move.{Move}
 use Rattle.moves.specs.First.{first}
-use Rattle.rules.specs.Answers.{entry_asked, refusal_in, entry_move, marking_lines}
+use Rattle.rules.specs.Answers.{entry_move, marking_lines}
 use Rattle.moves.specs.Move.{entry_of, marking_fits, no_marking}
 use Rattle.moves.specs.Given.{first_clear, first_refused}
 use Rattle.journal.specs.declared.Ran.{Ran}
 use Rattle.journal.specs.Journal.{entries, entry_at, length_fits}
-use Rattle.journal.specs.Allowed.{is_allowed, refused_moved}
 use Rattle.journal.specs.Run.{go_on, length_lines, ran_of, the_run, run_from}
 use Rattle.journal.specs.Inner.{run_on, run_from_lem}
 use Rattle.journal.specs.declared.Walked.{Walked}

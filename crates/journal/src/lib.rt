@@ -1,4 +1,6 @@
 // Journals: entries of three bytes, read, run and walked.
+#![tactic(auto)]
+
 ghost use Rattle.std.specs.Prelude.{◌≡◌};
 ghost use Rattle.rules.specs.Graph.{graph_of};
 ghost use Rattle.journal.specs.Run.{the_run};
@@ -14,14 +16,14 @@ pub mod quick;
 
 // All entries pass, with the end marking and their number; or the first that is not allowed, with its index, the marking before it
 // (below 11: zeros) and its refusal.
-#[derive(Drop)]
+#[derive(Clone, Copy)]
 pub enum Ran {
     Ended(Marking, u16),
     Stopped(u16, Marking, Refusal),
 }
 
 // What a walk says: the entry at its place; that there is none left; or 7.
-#[derive(Drop)]
+#[derive(Clone, Copy)]
 pub enum Walked {
     At(Entry),
     End,
@@ -29,14 +31,14 @@ pub enum Walked {
 }
 
 // A walk keeps hold of the lent journal and of its place in it, the number of entries handed out.
-#[derive(Drop)]
+#[derive(Clone, Copy)]
 pub struct Walk<'a> {
     pub journal: &'a [u8],
     pub place: usize,
 }
 
 // What a walk says, and its next place.
-#[derive(Drop)]
+#[derive(Clone, Copy)]
 pub struct Stride {
     pub said: Walked,
     pub place: usize,

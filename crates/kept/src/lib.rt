@@ -1,4 +1,6 @@
 // The kept marking: a cabinet has one marking for good, which every allowed entry changes in place. `keep` takes it by `&mut`.
+#![tactic(auto)]
+
 ghost use Rattle.std.specs.Prelude.{◌≡◌};
 ghost use Rattle.rules.specs.Graph.{graph_of};
 ghost use Rattle.kept.specs.Keep.{the_kept};
@@ -7,7 +9,7 @@ use moves::{Entry, Marking, Move};
 use rules::Job;
 
 // The answer of the move, and the marking that lies there then.
-#[derive(Drop)]
+#[derive(Clone, Copy)]
 pub struct Kept {
     pub answer: Move,
     pub marking: Marking,

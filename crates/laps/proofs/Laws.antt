@@ -21,6 +21,7 @@ use Rattle.laps.specs.Endless.{marking_at, moved_at, TakenAt, DoneAt, ExcludedAt
 use Rattle.laps.specs.Laps.{endless_run, index_at, pass_at, number_of_pass, lap_lines, Stops, LapAnswer}
 use Rattle.laps.specs.Decision.{decision, lap_of, the_lap}
 use Rattle.laps.specs.Places.{never_later}
+use Rattle.laps.specs.Three.{IsRefused, IsAccepted, IsStarved, OneOfThree}
 use Rattle.laps.proofs.Right.{some, sound, inside, decision_right}
 
 -- ---- any endless run
@@ -149,22 +150,7 @@ module _ (g : Graph) (m : Marking) (stem lap : List ℕ) where
 
   -- ---- exactly one of refused, accepted, starved holds
 
-  abbrev pub IsRefused : Type 0
-  IsRefused = (k : ℕ) × (p : Pass) × (r : Refusal) × Stops g m S L k p r
-
-  abbrev pub IsAccepted : Type 0
-  IsAccepted = GoesOn g m e × Accepting g m e
-
-  abbrev pub IsStarved : Type 0
-  IsStarved = GoesOn g m e × ((s : ℕ) × Starving g m e s)
-
-  pub record OneOfThree : Type 0 where
-    pub one : IsRefused ⊎ (IsAccepted ⊎ IsStarved)
-    pub refused_accepted : IsRefused → IsAccepted → ⊥
-    pub refused_starved : IsRefused → IsStarved → ⊥
-    pub accepted_starved : IsAccepted → IsStarved → ⊥
-
-  pub one_of_three : first (lap_lines g m stem lap) ≡ Verdict.Clear → OneOfThree
+  pub one_of_three : first (lap_lines g m stem lap) ≡ Verdict.Clear → OneOfThree g m stem lap
   unfolding LapAnswer
   one_of_three clear =
       record {
@@ -174,7 +160,8 @@ module _ (g : Graph) (m : Marking) (stem lap : List ℕ) where
         accepted_starved = λ a b. accepting_starving g m e b.1.0 a.1 b.1.1;
       }
     where
-      go : (o : Lapped) → LapAnswer g m stem lap o → IsRefused ⊎ (IsAccepted ⊎ IsStarved)
+      go : (o : Lapped) → LapAnswer g m stem lap o
+          → IsRefused g m stem lap ⊎ (IsAccepted g m stem lap ⊎ IsStarved g m stem lap)
       go (Lapped.Refused r) a = clear_refused _ r clear a
       go (Lapped.Stopped k p r) a = inl (k, p, r, a.1)
       go Lapped.Accepted a = inr (inl (a.1, a.2))

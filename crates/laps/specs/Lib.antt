@@ -6,3 +6,4 @@ pub mod Legs
 pub mod Repeats
 pub mod Places
 pub mod Ways
+pub mod Three

@@ -19,7 +19,7 @@ const ALL: u64 = 18446744073709551615;
 
 // Where going through a journal leads: to its end, with the marking there and the steps that were due and included in every marking on the
 // way and not done; or to the first entry that is not allowed, with its index.
-#[derive(Drop)]
+#[derive(Clone, Copy)]
 pub enum Leg {
     Ended(Marking, u64),
     Stopped(u16, Refusal),

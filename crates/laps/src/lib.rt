@@ -1,4 +1,6 @@
 // Laps: a stem, then a lap without end.
+#![tactic(auto)]
+
 ghost use Rattle.rules.specs.Graph.{graph_of};
 ghost use Rattle.laps.specs.Laps.{LapAnswer};
 
@@ -10,7 +12,7 @@ use rules::Job;
 pub mod inner;
 
 // The stem, the lap's first time, its second, any later one.
-#[derive(Drop)]
+#[derive(Clone, Copy)]
 pub enum Pass {
     Stem,
     First,
@@ -20,7 +22,7 @@ pub enum Pass {
 
 // The run goes on for ever and is accepted; or it goes on and starves a step, the lowest such. Refused before any entry is looked at; or
 // stopped at the first entry not allowed, with its index in the stem or lap, the pass and the refusal.
-#[derive(Drop)]
+#[derive(Clone, Copy)]
 pub enum Lapped {
     Accepted,
     Starved(Step),

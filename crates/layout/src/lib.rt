@@ -1,4 +1,6 @@
 // The layout of a sheet: the number of bodies, a contents line for each, and the bodies without gaps to the end.
+#![tactic(auto)]
+
 ghost use Rattle.std.specs.Prelude.{◌≡◌, ℕ, ◌+◌, ◌*◌, ◌<◌, ◌≤◌, ◌&&◌, length, get_or, eqb};
 ghost use Rattle.numbers.specs.Numbers.{Spliced};
 ghost use Rattle.layout.specs.Layout.{line_of, front, start, kind_at, offset_at, size_at, body_at, contents_fit};

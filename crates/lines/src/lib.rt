@@ -1,4 +1,5 @@
 // The lines that the program prints, `key: value` each.
+#![tactic(auto)]
 pub mod names;
 pub mod places;
 pub mod refusals;

@@ -6,7 +6,7 @@ ghost use Rattle.moves.specs.Move.{asked_of, given_back, row_lines, after, after
 use crate::{Asked, Entry, Marking, NONE, Rank, Refusal, Step, tell};
 
 // What an entry meets of the graph: the roles its person holds, the roles of its step, and the step's arrows.
-#[derive(Drop)]
+#[derive(Clone, Copy)]
 pub struct Row {
     pub held: u64,
     pub allows: u64,

@@ -1,4 +1,6 @@
 // Markings, entries, and the answers to taking a step: what every floor speaks of, with the numbers on the door.
+#![tactic(auto)]
+
 ghost use Rattle.std.specs.Prelude.{◌≡◌};
 ghost use Rattle.moves.specs.First.{told_of};
 
@@ -6,16 +8,16 @@ pub mod inner;
 
 // A step, counted from 0.
 #[repr(C)]
-#[derive(Drop)]
+#[derive(Clone, Copy)]
 pub struct Step(pub u8);
 
 // A step's rank in the tracker, counted from 1.
-#[derive(Drop)]
+#[derive(Clone, Copy)]
 pub struct Rank(pub u8);
 
 // A person takes a step in a role.
 #[repr(C)]
-#[derive(Drop)]
+#[derive(Clone, Copy)]
 pub struct Entry {
     pub person: u8,
     pub step: Step,
@@ -24,7 +26,7 @@ pub struct Entry {
 
 // Three sets of steps: done before (Ex), due (Re), included (In).
 #[repr(C)]
-#[derive(Drop)]
+#[derive(Clone, Copy)]
 pub struct Marking {
     pub done: u64,
     pub due: u64,
@@ -38,7 +40,7 @@ pub const NONE: Marking = Marking {
 };
 
 // The refusals of the whole house, in the order of their numbers.
-#[derive(Drop)]
+#[derive(Clone, Copy)]
 pub enum Refusal {
     Layout,
     Counts,
@@ -63,14 +65,14 @@ pub enum Refusal {
 }
 
 // Nothing against the input, or the first refusal that holds.
-#[derive(Drop)]
+#[derive(Clone, Copy)]
 pub enum Verdict {
     Clear,
     Refused(Refusal),
 }
 
 // An entry that is asked for: it is allowed, or refused.
-#[derive(Drop)]
+#[derive(Clone, Copy)]
 pub enum Asked {
     Allowed,
     Refused(Refusal),
@@ -78,14 +80,14 @@ pub enum Asked {
 
 // A step taken, with the marking after; or refused, with the marking handed in (below 11: an empty one). The marking stands first in
 // both, so that it lies in one place whatever the answer is.
-#[derive(Drop)]
+#[derive(Clone, Copy)]
 pub enum Move {
     Moved(Marking),
     Refused(Marking, Refusal),
 }
 
 // What a refusal says: its number on the door, and with 15 the set of steps that are waited for (empty with every other).
-#[derive(Drop)]
+#[derive(Clone, Copy)]
 pub struct Told {
     pub number: u8,
     pub waiting: u64,

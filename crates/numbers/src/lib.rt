@@ -1,4 +1,6 @@
 // Numbers as bytes, lowest first, in lent memory.
+#![tactic(auto)]
+
 ghost use Rattle.std.specs.Prelude.{◌≡◌, ℕ, ◌+◌, ◌*◌, ◌<◌, ◌≤◌, length, drop};
 ghost use Rattle.numbers.specs.Numbers.{number, bytes, Spliced};
 

@@ -1,3 +1,4 @@
 // The program between its arguments and its answers.
+#![tactic(auto)]
 mod answers;
 pub mod calls;

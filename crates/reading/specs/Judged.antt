@@ -11,7 +11,7 @@ use Rattle.arrows.specs.Arrows.{Arrow, link_in_order, table_of}
 use Rattle.arrows.specs.Places.{fit_places}
 use Rattle.arrows.specs.Loops.{filled, filled_all}
 use Rattle.arrows.specs.Rows.{kind_rows}
-use Rattle.reading.specs.Reading.{counts_of, arrows_on, block_read, graph_in, kinds_right, read_verdict}
+use Rattle.reading.specs.Reading.{counts_of, arrows_on, block_read, kinds_right, read_verdict}
 use Rattle.reading.specs.Laws.{read_kind}
 
 -- what the reader finds: the first refusal that holds; and where none does, the table holds the arrows

@@ -1,4 +1,6 @@
 // Reading a sheet: what is against it, test by test, and the block that it is read into.
+#![tactic(auto)]
+
 ghost use Rattle.std.specs.Prelude.{◌≡◌, ◌≤◌, true, length, get_or, replicate};
 ghost use Rattle.moves.specs.declared.Verdict.{Verdict};
 ghost use Rattle.arrows.specs.Arrows.{table_of};
@@ -14,7 +16,7 @@ use moves::{Marking, Refusal, Verdict};
 use rules::CONDITIONS;
 
 // A form of sheet: how many bodies it has, the bytes of body 1 and which of them counts the actions, the least and the most bytes.
-#[derive(Drop)]
+#[derive(Clone, Copy)]
 pub struct Form {
     pub bodies: usize,
     pub counts: usize,

@@ -1,4 +1,6 @@
 // Folded records: what a journal needs and does, without the journal.
+#![tactic(auto)]
+
 ghost use Rattle.std.specs.Prelude.{◌≡◌};
 ghost use Rattle.records.specs.Answers.{the_join, the_application};
 
@@ -7,7 +9,7 @@ use moves::{Marking, NONE, Refusal};
 pub mod inner;
 
 // What is needed of a marking, and what is then done to it. Never: no marking will do.
-#[derive(Drop)]
+#[derive(Clone, Copy)]
 pub struct Record {
     pub never: bool,
     pub needin: u64,
@@ -21,14 +23,14 @@ pub struct Record {
 }
 
 // A record, or why there is none. A refusal holds no record.
-#[derive(Drop)]
+#[derive(Clone, Copy)]
 pub enum Recorded {
     Made(Record),
     Refused(Refusal),
 }
 
 // A record applied, with the marking after; or refused, with the marking handed in (below 11: an empty one).
-#[derive(Drop)]
+#[derive(Clone, Copy)]
 pub enum Applied {
     Gives(Marking),
     Refused(Marking, Refusal),

@@ -1,7 +1,6 @@
 -- The smallest sheet is the sheet of its graph, both ways; and the smallest sheet of five bodies, that of document 01, is read as the same
 -- graph. Each side computes. Assumes nothing.
 use Rattle.std.specs.Prelude.{ℕ, ◌≡◌, refl, List, [], ◌∷◌, ◌++◌, length, replicate}
-use Rattle.std.proofs.Common.{ap₂, ◌∙◌}
 use Rattle.sets.specs.Sets.{has, every}
 use Rattle.moves.specs.declared.Marking.{Marking}
 use Rattle.moves.specs.declared.Verdict.{Verdict}
@@ -13,7 +12,7 @@ use Rattle.layout.specs.Layout.{contents, joined, follows}
 use Rattle.arrows.specs.Arrows.{arrows_in, spelt, all_link, ascending, put, put_all, held, listed, arrows_of}
 use Rattle.bodies.specs.Tables.{tabled}
 use Rattle.bodies.specs.Bodies.{rows_body, role_sets_fit, actions_fit}
-use Rattle.reading.specs.Reading.{form_of, labels_part, own_steps, first_of, graph_in, layout_fits, read_verdict, block_read}
+use Rattle.reading.specs.Reading.{form_of, labels_part, own_steps, layout_fits, read_verdict, block_read}
 use Rattle.writing.specs.Writing.{sheet_bytes, content_lines}
 use Rattle.rounds.specs.Says.{Says}
 

@@ -10,12 +10,10 @@ use Rattle.rules.specs.Graph.{Graph, graph_lines, graph_verdict, conditions_of, 
 use Rattle.moves.specs.declared.Marking.{Marking}
 use Rattle.moves.specs.declared.Entry.{Entry}
 use Rattle.moves.specs.declared.Verdict.{Verdict}
-use Rattle.moves.specs.declared.Asked.{Asked}
-use Rattle.moves.specs.declared.Move.{Move}
 use Rattle.moves.specs.First.{first, number_of_verdict, number_of}
-use Rattle.rules.specs.Answers.{the_asked, the_move, move_lines, entry_lines, marking_lines, entry_known, row_of, after_entry}
+use Rattle.rules.specs.Answers.{the_move, move_lines, marking_lines, entry_known, row_of}
 use Rattle.rules.specs.Answers.{number_of_ending, ending_of, the_ending}
-use Rattle.moves.specs.Move.{asked_of, move_of, row_lines, after, waits_for, is_finished, marking_fits, number_of_move}
+use Rattle.moves.specs.Move.{row_lines, after, waits_for, is_finished, marking_fits, number_of_move}
 use Rattle.moves.specs.Given.{ascends, holds, first_lowest, clear_head, clear_tail}
 use Rattle.rules.specs.Signs.{◌∩◌, ◌∖◌, ◌∪◌, ◌∈◌, Ex, Re, In}
 use Rattle.rules.specs.Asking.{asked_number, asked_lines}

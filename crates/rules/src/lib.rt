@@ -1,4 +1,6 @@
 // The paper's Definitions 3 to 5: graphs, and asking for a step and taking it on one.
+#![tactic(auto)]
+
 ghost use Rattle.std.specs.Prelude.{◌≡◌};
 ghost use Rattle.rules.specs.Graph.{graph_of, graph_verdict};
 ghost use Rattle.rules.specs.Answers.{the_asked, the_move, the_ending};
@@ -30,7 +32,7 @@ pub const WORDS: usize = 404;
 
 pub type Job = [u64; WORDS];
 
-#[derive(Drop)]
+#[derive(Clone, Copy)]
 pub enum Ending {
     Finished,
     Open,

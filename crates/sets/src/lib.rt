@@ -1,4 +1,6 @@
 // Sets of steps, held in a `u64`: step s is bit s.
+#![tactic(auto)]
+
 ghost use Rattle.std.specs.Prelude.{◌≡◌, ℕ, ◌<◌, ◌≤◌};
 ghost use Rattle.sets.specs.Sets.{has, single, union, meet, minus, subset, within, full, span, lowest};
 

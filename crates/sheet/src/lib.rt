@@ -1,4 +1,6 @@
 // The sheet of a graph and its first marking: the reader and the writer. A graph is lent as one block.
+#![tactic(auto)]
+
 ghost use Rattle.std.specs.Prelude.{◌≡◌, true, false, length};
 ghost use Rattle.rules.specs.Graph.{graph_of};
 ghost use Rattle.sheet.specs.Sheet.{read_verdict, block_read, if_clear, the_answer, the_written, room_after};
@@ -7,14 +9,14 @@ use moves::{Marking, NONE, Refusal, Verdict};
 use rules::Job;
 
 // What is against a sheet, and its first marking. On a refusal the marking is empty.
-#[derive(Drop)]
+#[derive(Clone, Copy)]
 pub struct Answer {
     pub verdict: Verdict,
     pub first: Marking,
 }
 
 // The length written, or the refusal.
-#[derive(Drop)]
+#[derive(Clone, Copy)]
 pub enum Written {
     Length(usize),
     Refused(Refusal),

@@ -1,4 +1,6 @@
 // A record in its 65 bytes: the reader and the writer.
+#![tactic(auto)]
+
 ghost use Rattle.std.specs.Prelude.{◌≡◌};
 ghost use Rattle.spelling.specs.Bytes.{the_reading, Writing};
 

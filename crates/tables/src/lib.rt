@@ -1,17 +1,19 @@
 // What the check of a graph asks of its counts and of its tables, each lent as a part of the job.
+#![tactic(auto)]
+
 ghost use Rattle.std.specs.Prelude.{◌≡◌, ◌-◌, ◌≤◌, length};
 ghost use Rattle.sets.specs.Sets.{gather};
 ghost use Rattle.tables.specs.Tables.{row, counts_fit, roles_fit, labels_fit, arrow_rows_fit, kinds_apart};
 ghost use Rattle.tables.specs.Gathered.{beyond, raised, rows_together, rows_shared, Reach, Sized};
 
 // What the tables of arrows name, and what some step both includes and excludes.
-#[derive(Drop)]
+#[derive(Clone, Copy)]
 struct Seen {
     all: u64,
     both: u64,
 }
 
-#[derive(Drop)]
+#[derive(Clone, Copy)]
 pub struct Arrows {
     pub fit: bool,
     pub apart: bool,

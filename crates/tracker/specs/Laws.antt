@@ -1,12 +1,12 @@
 -- The laws of the tracker: which answer is given, by what is found; the rule by its cases; and what an answer with a state says.
 -- Assumes nothing.
 use Rattle.std.specs.Prelude.{ℕ, ◌+◌, ◌<◌, ◌≤◌, ◌≡◌, refl, List, [], ◌++◌, Bool, true, false, not, ◌&&◌, cond, leb, ltb}
-use Rattle.std.proofs.Common.{sym, ap, ap₂, ◌∙◌, true≢false, arith, lt-ltb, le-ltb, ne_eqb, le-leb, leb-true}
+use Rattle.std.proofs.Common.{sym, ap, ap₂, ◌∙◌, arith, lt-ltb, le-ltb, ne_eqb, le-leb, leb-true}
 use Rattle.std.proofs.Math.Decide.{dec_lt}
 use Rattle.std.proofs.lemmas.Bool.{lt-leb, not-false}
 use Rattle.sets.specs.Sets.{has, empty, full, lowest}
 use Rattle.sets.specs.Truth.{and_left, and_right, and_intro}
-use Rattle.sets.specs.Laws.{has_minus, has_full, empty_members, members_empty}
+use Rattle.sets.specs.Laws.{has_minus, has_full}
 use Rattle.rules.specs.Graph.{Graph, graph_lines, graph_verdict}
 use Rattle.moves.specs.declared.Marking.{Marking}
 use Rattle.moves.specs.declared.Rank.{Rank}

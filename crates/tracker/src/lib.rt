@@ -1,4 +1,6 @@
 // The tracker of the paper's Definition 7: it sees to it that no due step waits for ever.
+#![tactic(auto)]
+
 ghost use Rattle.std.specs.Prelude.{◌≡◌};
 ghost use Rattle.rules.specs.Graph.{graph_of};
 ghost use Rattle.tracker.specs.Tracker.{the_start, the_idle, the_step};
@@ -11,7 +13,7 @@ use rules::inner::{ask_entry, taken};
 pub mod inner;
 
 // A marking, the rank that was served last, and the flag.
-#[derive(Drop)]
+#[derive(Clone, Copy)]
 pub struct Track {
     pub marking: Marking,
     pub rank: Rank,
@@ -19,7 +21,7 @@ pub struct Track {
 }
 
 // The state after; or refused (below 11); or refused from 11 on, with the state handed in.
-#[derive(Drop)]
+#[derive(Clone, Copy)]
 pub enum Tracked {
     At(Track),
     Refused(Refusal),

@@ -1,4 +1,5 @@
 // The program: does what its arguments ask for, and answers its exit status.
+#![tactic(auto)]
 ghost use Rattle.std.specs.Prelude.{◌≡◌};
 ghost use Rattle.ulz.specs.Ends.{Ends, for_c};
 

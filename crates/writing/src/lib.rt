@@ -1,4 +1,6 @@
 // Writing a sheet: what may be against its content, its length, and its parts one after the other.
+#![tactic(auto)]
+
 ghost use Rattle.std.specs.Prelude.{◌≡◌, ◌+◌, ◌*◌, ◌≤◌, ◌++◌, length};
 ghost use Rattle.moves.specs.declared.Verdict.{Verdict};
 ghost use Rattle.moves.specs.First.{first};

@@ -1,0 +1,5 @@
+-- `ulz_track_idle`: number and values of the tracker's answer to the state handed in. Assumes nothing.
+use Rattle.door.proofs.ulz_track_idle.Goals as goal
+
+pub returns : goal.returns
+returns c = rw (c.idle-o.ensures, c.track.ensures) at c.tracked.ensures

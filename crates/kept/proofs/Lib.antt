@@ -1,2 +1,0 @@
--- Beside the proofs of the functions: what the two walks by hand share.
-mod Laid

@@ -1,0 +1,27 @@
+-- `inner::second_lap`: the leg over the lap, and then what is left of it. Assumes nothing.
+use mathlib.Core.Path.{sym, ◌∙◌}
+use Rattle.rules.specs.Graph.{Graph, graph_of}
+use Rattle.journal.specs.Journal.{entries}
+use Rattle.laps.specs.declared.Pass.{Pass}
+use Rattle.laps.specs.Decision.{leg_of, judged, second_lap}
+use Rattle.laps.specs.Ways.{upon_ended, upon_stopped}
+use Rattle.laps.proofs.inner.second_lap.Goals as goal
+
+pub returns-in-Stopped : goal.returns-in-Stopped
+unfolding second_lap
+returns-in-Stopped c =
+    let a = c.args in
+    let g : Graph = graph_of a.g.now in
+    let j = entries a.lap.now in
+    sym (upon_stopped (leg_of g a.m j) Pass.Second (λ end x. judged x) _ _
+    (sym c.go_through-leg.ensures ∙ c.in-Stopped.is))
+
+pub returns-in-Ended : goal.returns-in-Ended
+unfolding second_lap
+returns-in-Ended c =
+    let a = c.args in
+    let g : Graph = graph_of a.g.now in
+    let j = entries a.lap.now in
+    c.judge.ensures ∙ sym
+    (upon_ended (leg_of g a.m j) Pass.Second (λ end x. judged x) _ _
+    (sym c.go_through-leg.ensures ∙ c.in-Ended.is))

@@ -1,0 +1,27 @@
+-- `tables::arrows_named`: all and both are what the rows passed name and share. Assumes nothing.
+use Rattle.std.proofs.Common.{◌≡◌, ℕ, sym, ap, ◌∙◌, arith, rules}
+use Rattle.sets.specs.Sets.{gather, union}
+use Rattle.sets.specs.Laws.{gather_more}
+use Rattle.tables.specs.Gathered.{rows_together, rows_shared}
+use Rattle.tables.proofs.arrows_named.Goals as goal
+
+pub loop-i-init : goal.loop-i-init
+unfolding gather
+loop-i-init c = search rules
+
+pub loop-i-preserved : goal.loop-i-preserved
+loop-i-preserved c =
+    let l = c.loop-i in
+    let a = c.args in
+    let rows = rows_together a.conditions.now a.responses.now a.includes.now a.excludes.now in
+    let shared = rows_shared a.includes.now a.excludes.now in (
+      search rules,
+      ap (λ (x : ℕ). union x (rows l.i)) l.invariant.1 ∙ sym (gather_more l.i rows),
+      ap (λ (x : ℕ). union x (shared l.i)) l.invariant.2 ∙ sym (gather_more l.i shared),
+    )
+
+pub returns : goal.returns
+returns c =
+    let a = c.args in
+    let l = c.loop-i in
+    let e : l.i ≡ a.count = omega arith in record { all_value = l.invariant.1 ∙ ap (λ (k : ℕ). gather k (rows_together a.conditions.now a.responses.now a.includes.now a.excludes.now)) e; both_value = l.invariant.2 ∙ ap (λ (k : ℕ). gather k (rows_shared a.includes.now a.excludes.now)) e }

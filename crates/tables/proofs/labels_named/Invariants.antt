@@ -1,0 +1,11 @@
+use Rattle.std.proofs.Common.{◌≡◌, ◌-◌, ◌≤◌}
+use Rattle.sets.specs.Sets.{gather}
+use Rattle.tables.specs.Tables.{row}
+use Rattle.tables.specs.Gathered.{raised}
+use Rattle.tables.proofs.labels_named.Given as goal
+
+abbrev pub invariant-loop-i : goal.invariant-loop-i
+invariant-loop-i l = (l.i ≤ l.count) × (l.found ≡ gather l.i (raised l.up (row l.labels)))
+
+abbrev pub decreases-loop-i : goal.decreases-loop-i
+decreases-loop-i l = l.count - l.i
