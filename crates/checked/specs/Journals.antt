@@ -25,7 +25,7 @@ use Rattle.folding.specs.Answers.{the_fold, the_restoring}
 use Rattle.folded.specs.Theorems.{restore_passes}
 use Rattle.cabinet.specs.Cabinet.{reboot, publish, cabinet, at_first, arms_fit}
 use Rattle.cabinet.specs.Laws.{arms_low, arms_high, cabinet_clear, first_fits}
-use Rattle.checked.specs.Words.{steps_taken, steps_of_lem, checks_in, one_to, Occurs, since_reboot, Behind, rebooted}
+use Rattle.checked.specs.Words.{steps_taken, steps_of, checks_in, one_to, Occurs, since_reboot, Behind, rebooted}
 use Rattle.checked.specs.Lists.{behind_since, counted_occurs, steps_append}
 use Rattle.checked.specs.Checked.{included_all, published_all, finished_all, finished_counted, only_checks}
 
@@ -78,42 +78,42 @@ module _ (b : ℕ) (arms : arms_fit b ≡ true) (j : List ℕ) (m : Marking) (n 
   passed = (ended_passes (cabinet b) (at_first b) m n j ran).2
 
   -- What is published was checked: behind the reboot that came last, or from the start on, stand check 1 to check b, in this order, once
-  pub published_checked : (i : ℕ) → i < length (steps_of_lem j) → get_or (steps_of_lem j) i 0 ≡ publish b
-      → checks_in b (since_reboot (take i (steps_of_lem j))) ≡ one_to b
+  pub published_checked : (i : ℕ) → i < length (steps_of j) → get_or (steps_of j) i 0 ≡ publish b
+      → checks_in b (since_reboot (take i (steps_of j))) ≡ one_to b
   published_checked i h e =
-      let all = published_all b arms (entries j) m passed (take i (steps_of_lem j)) (drop (suc i) (steps_of_lem j))
-      (split_at (steps_of_lem j) i 0 h ∙ ap (λ (s : ℕ). take i (steps_of_lem j) ++ (s ∷ drop (suc i) (steps_of_lem j))) e) in
-      only_checks b (since_reboot (take i (steps_of_lem j))) all.0 all.1
+      let all = published_all b arms (entries j) m passed (take i (steps_of j)) (drop (suc i) (steps_of j))
+      (split_at (steps_of j) i 0 h ∙ ap (λ (s : ℕ). take i (steps_of j) ++ (s ∷ drop (suc i) (steps_of j))) e) in
+      only_checks b (since_reboot (take i (steps_of j))) all.0 all.1
 
   -- the same with no cut: wherever a publish stands
-  pub published_behind : (front after behind : List ℕ) → steps_of_lem j ≡ front ++ (publish b ∷ after) → Behind front behind
+  pub published_behind : (front after behind : List ℕ) → steps_of j ≡ front ++ (publish b ∷ after) → Behind front behind
       → checks_in b behind ≡ one_to b
   published_behind front after behind e h =
       let all = behind_all b arms (entries j) m passed front after behind e h in
       only_checks b behind all.0 all.1
 
   -- and besides the checks only publishing: what was published once may be published again
-  pub published_only : (front after behind : List ℕ) → steps_of_lem j ≡ front ++ (publish b ∷ after) → Behind front behind
+  pub published_only : (front after behind : List ℕ) → steps_of j ≡ front ++ (publish b ∷ after) → Behind front behind
       → (r : ℕ) × (behind ≡ one_to b ++ replicate r (publish b))
   published_only front after behind e h = behind_all b arms (entries j) m passed front after behind e h
 
   -- The job is finished if, and only if, no check is missing behind the last reboot, or from the start on
-  pub finished_checked : (the_ending (cabinet b) m ≡ Ending.Finished) ↔ ((k : ℕ) → 1 ≤ k → k ≤ b → Occurs k (since_reboot (steps_of_lem j)))
+  pub finished_checked : (the_ending (cabinet b) m ≡ Ending.Finished) ↔ ((k : ℕ) → 1 ≤ k → k ≤ b → Occurs k (since_reboot (steps_of j)))
   finished_checked = both_ways (ended_exactly b arms (entries j) m passed) (finished_all b arms (entries j) m passed)
 
-  pub finished_listed : (the_ending (cabinet b) m ≡ Ending.Finished) ↔ (checks_in b (since_reboot (steps_of_lem j)) ≡ one_to b)
+  pub finished_listed : (the_ending (cabinet b) m ≡ Ending.Finished) ↔ (checks_in b (since_reboot (steps_of j)) ≡ one_to b)
   finished_listed = both_ways (ended_exactly b arms (entries j) m passed) (finished_counted b arms (entries j) m passed)
 
   -- the same with no cut
-  pub finished_behind : (behind : List ℕ) → Behind (steps_of_lem j) behind
+  pub finished_behind : (behind : List ℕ) → Behind (steps_of j) behind
       → (the_ending (cabinet b) m ≡ Ending.Finished) ↔ ((k : ℕ) → 1 ≤ k → k ≤ b → Occurs k behind)
   finished_behind behind h =
       subst (λ (l : List ℕ). (the_ending (cabinet b) m ≡ Ending.Finished) ↔ ((k : ℕ) → 1 ≤ k → k ≤ b → Occurs k l))
-      (behind_since (steps_of_lem j) behind h) finished_checked
+      (behind_since (steps_of j) behind h) finished_checked
 
   -- nobody may publish in any role before they have
   pub publish_held : (person role : ℕ) → the_asked (cabinet b) m (entry_of person (publish b) role) ≡ Asked.Allowed
-      → checks_in b (since_reboot (steps_of_lem j)) ≡ one_to b
+      → checks_in b (since_reboot (steps_of j)) ≡ one_to b
   publish_held person role e = asked_all b arms (entries j) m passed person role e
 
 -- ---- the accident
@@ -121,19 +121,19 @@ module _ (b : ℕ) (arms : arms_fit b ≡ true) (j : List ℕ) (m : Marking) (n 
 -- After a reboot no journal publishes before the whole round: of the entries between them, of which none reboots, every check is one
 pub accident : (b : ℕ) → arms_fit b ≡ true → (before between after : List ℕ) (p r q t : ℕ) (m : Marking) (n : ℕ)
     → the_run (cabinet b) (at_first b) (before ++ (p ∷ reboot ∷ r ∷ (between ++ (q ∷ publish b ∷ t ∷ after)))) ≡ Ran.Ended m n
-    → length before % 3 ≡ 0 → length between % 3 ≡ 0 → (Occurs reboot (steps_of_lem between) → ⊥)
-    → (k : ℕ) → 1 ≤ k → k ≤ b → Occurs k (steps_of_lem between)
+    → length before % 3 ≡ 0 → length between % 3 ≡ 0 → (Occurs reboot (steps_of between) → ⊥)
+    → (k : ℕ) → 1 ≤ k → k ≤ b → Occurs k (steps_of between)
 unfolding entries steps_taken
-accident b arms before between after p r q t m n ran Whole-before whole-between none k h l =
-    let steps : steps_of_lem (before ++ (p ∷ reboot ∷ r ∷ (between ++ (q ∷ publish b ∷ t ∷ after))))
-    ≡ (steps_of_lem before ++ (reboot ∷ steps_of_lem between)) ++ (publish b ∷ steps_of_lem after) =
-    ap steps_taken (entries_append before (p ∷ reboot ∷ r ∷ (between ++ (q ∷ publish b ∷ t ∷ after))) Whole-before
+accident b arms before between after p r q t m n ran whole_before whole-between none k h l =
+    let steps : steps_of (before ++ (p ∷ reboot ∷ r ∷ (between ++ (q ∷ publish b ∷ t ∷ after))))
+    ≡ (steps_of before ++ (reboot ∷ steps_of between)) ++ (publish b ∷ steps_of after) =
+    ap steps_taken (entries_append before (p ∷ reboot ∷ r ∷ (between ++ (q ∷ publish b ∷ t ∷ after))) whole_before
     ∙ ap (λ (es : List Entry). entries before ++ (entry_of p reboot r ∷ es)) (entries_append between (q ∷ publish b ∷ t ∷ after) whole-between))
     ∙ steps_append (entries before) (entry_of p reboot r ∷ (entries between ++ (entry_of q (publish b) t ∷ entries after)))
-    ∙ ap (λ (s : List ℕ). steps_of_lem before ++ (reboot ∷ s)) (steps_append (entries between) (entry_of q (publish b) t ∷ entries after))
-    ∙ sym (append_assoc (steps_of_lem before) (reboot ∷ steps_of_lem between) (publish b ∷ steps_of_lem after)) in
+    ∙ ap (λ (s : List ℕ). steps_of before ++ (reboot ∷ s)) (steps_append (entries between) (entry_of q (publish b) t ∷ entries after))
+    ∙ sym (append_assoc (steps_of before) (reboot ∷ steps_of between) (publish b ∷ steps_of after)) in
     let all = published_only b arms (before ++ (p ∷ reboot ∷ r ∷ (between ++ (q ∷ publish b ∷ t ∷ after)))) m n ran
-    (steps_of_lem before ++ (reboot ∷ steps_of_lem between)) (steps_of_lem after) (steps_of_lem between) steps (rebooted (steps_of_lem before) refl none) in
+    (steps_of before ++ (reboot ∷ steps_of between)) (steps_of after) (steps_of between) steps (rebooted (steps_of before) refl none) in
     subst (Occurs k) (sym all.1) (counted_occurs k b (replicate all.0 (publish b)) h l)
 
 -- Nor where a part of the journal was folded, and the rest went on from its record: `first` was run, `folded` is known by its record alone
@@ -141,7 +141,7 @@ module _ (b : ℕ) (arms : arms_fit b ≡ true) (first folded rest : List ℕ) (
     (ran : the_run (cabinet b) (at_first b) first ≡ Ran.Ended x k) (made : the_fold (cabinet b) folded ≡ Recorded.Made p)
     (restored : the_restoring (cabinet b) p rest x ≡ Ran.Ended m n) where
   abbrev steps : List ℕ
-  steps = steps_of_lem first ++ (steps_of_lem folded ++ steps_of_lem rest)
+  steps = steps_of first ++ (steps_of folded ++ steps_of rest)
 
   abbrev all_entries : List Entry
   all_entries = entries first ++ (entries folded ++ entries rest)
@@ -153,7 +153,7 @@ module _ (b : ℕ) (arms : arms_fit b ≡ true) (first folded rest : List ℕ) (
 
   all_steps : steps_taken (entries first ++ (entries folded ++ entries rest)) ≡ steps
   all_steps = steps_append (entries first) (entries folded ++ entries rest)
-      ∙ ap (λ (s : List ℕ). steps_of_lem first ++ s) (steps_append (entries folded) (entries rest))
+      ∙ ap (λ (s : List ℕ). steps_of first ++ s) (steps_append (entries folded) (entries rest))
 
   pub accident_restored : (front after behind : List ℕ) → steps ≡ front ++ (publish b ∷ after) → Behind front behind → checks_in b behind ≡ one_to b
   accident_restored front after behind e h =

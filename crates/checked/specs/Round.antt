@@ -31,7 +31,7 @@ use Rattle.runs.specs.Runs.{Passes, passes_both, passes_within, passes_run, ende
 use Rattle.bodies.specs.Tables.{tabled, row_tabled}
 use Rattle.cabinet.specs.Cabinet.{reboot, publish, label_at, allows_at, holds_at, climber, desk, cabinet, at_first, arms_fit}
 use Rattle.cabinet.specs.Laws.{by_kind, by_reboot, by_check, by_publish, arms_low, arms_high, first_fits}
-use Rattle.checked.specs.Words.{steps_of_lem, checks_in, one_to, since_reboot, checking_from, whole_round}
+use Rattle.checked.specs.Words.{steps_of, checks_in, one_to, since_reboot, checking_from, whole_round}
 use Rattle.checked.specs.Standing.{Stands, stands_first, on_reboot, on_check, on_publish, stands_finished, finished_stands}
 use Rattle.checked.specs.Checked.{Seen, passes_seen, finished_counted}
 use Rattle.checked.specs.Journals.{clear, inside_first, ending_reached, publish_held}
@@ -194,7 +194,7 @@ module _ (b : ℕ) (arms : arms_fit b ≡ true) where
       × (the_ending (cabinet b) x ≡ Ending.Finished)
   round_again j m n ran =
       let passed = (ended_passes (cabinet b) (at_first b) m n j ran).2 in
-      let seen : Seen b m (since_reboot (steps_of_lem j)) = passes_seen b arms (entries j) m passed in
+      let seen : Seen b m (since_reboot (steps_of j)) = passes_seen b arms (entries j) m passed in
       let i : Inside (b + 2) m = passes_within (cabinet b) (at_first b) m (entries j) (clear b arms) (inside_first b) passed in
       let all = round_through seen.count m seen.stands i in
       let l : length (whole_round b) ≡ 3 * (b + 2) = round_length in
@@ -247,10 +247,10 @@ module _ (b : ℕ) (arms : arms_fit b ≡ true) where
   -- ---- the desk may publish exactly when all checks have occurred since the last reboot, or the start
 
   pub publish_exactly : (j : List ℕ) (m : Marking) (n : ℕ) → the_run (cabinet b) (at_first b) j ≡ Ran.Ended m n
-      → (the_asked (cabinet b) m (entry_of desk (publish b) desk) ≡ Asked.Allowed) ↔ (checks_in b (since_reboot (steps_of_lem j)) ≡ one_to b)
+      → (the_asked (cabinet b) m (entry_of desk (publish b) desk) ≡ Asked.Allowed) ↔ (checks_in b (since_reboot (steps_of j)) ≡ one_to b)
   publish_exactly j m n ran =
       let passed = (ended_passes (cabinet b) (at_first b) m n j ran).2 in
-      let seen : Seen b m (since_reboot (steps_of_lem j)) = passes_seen b arms (entries j) m passed in
+      let seen : Seen b m (since_reboot (steps_of j)) = passes_seen b arms (entries j) m passed in
       let i : Inside (b + 2) m = passes_within (cabinet b) (at_first b) m (entries j) (clear b arms) (inside_first b) passed in (
         publish_held b arms j m n ran desk desk,
         λ all.

@@ -10,8 +10,8 @@ unfoldable pub steps_taken : List Entry → List ℕ
 steps_taken [] = []
 steps_taken (e ∷ rest) = e.step.0 ∷ steps_taken rest
 
-abbrev pub steps_of_lem : List ℕ → List ℕ
-steps_of_lem j = steps_taken (entries j)
+abbrev pub steps_of : List ℕ → List ℕ
+steps_of j = steps_taken (entries j)
 
 -- the checks among some steps
 unfoldable pub checks_in : ℕ → List ℕ → List ℕ

@@ -44,7 +44,7 @@ pub extern "C" fn ulz_check(g: &Job) -> u64
 pub extern "C" fn ulz_ask(g: &Job, m: Marking, e: Entry) -> Asked
     ensures number_value { result.number ≡ number_of_asked (the_asked (graph_of g.now) m e) }
     ensures waiting_value { result.waiting ≡ waiting_of_asked (the_asked (graph_of g.now) m e) }
-    ensures g_value { g.now ≡ g.now }
+    ensures lent { g.exit.now ≡ g.entry.now }
 {
     let o = rules::ask(g, m, e);
     told::asked(o)
@@ -55,7 +55,7 @@ pub extern "C" fn ulz_ask(g: &Job, m: Marking, e: Entry) -> Asked
 pub extern "C" fn ulz_allowed_to(g: &Job, m: Marking, person: u64) -> Allowed
     ensures number_value { result.number ≡ number_of_choice (the_choice (graph_of g.now) m person) }
     ensures steps_value { result.steps ≡ steps_of_choice (the_choice (graph_of g.now) m person) }
-    ensures g_value { g.now ≡ g.now }
+    ensures lent { g.exit.now ≡ g.entry.now }
 {
     let o = greying::allowed_to(g, m, person);
     told::allowed(o)
@@ -66,7 +66,7 @@ pub extern "C" fn ulz_allowed_to(g: &Job, m: Marking, person: u64) -> Allowed
 pub extern "C" fn ulz_allowed_to_someone(g: &Job, m: Marking) -> Allowed
     ensures number_value { result.number ≡ number_of_choice (the_choice_of_all (graph_of g.now) m) }
     ensures steps_value { result.steps ≡ steps_of_choice (the_choice_of_all (graph_of g.now) m) }
-    ensures g_value { g.now ≡ g.now }
+    ensures lent { g.exit.now ≡ g.entry.now }
 {
     let o = greying::allowed_to_someone(g, m);
     told::allowed(o)

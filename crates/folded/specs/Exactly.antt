@@ -253,7 +253,7 @@ module _ (g : Graph) (j : List ℕ) (r : Record) (e : the_fold g j ≡ Recorded.
   unfolding acts
   never_exactly = (
     λ on m i. sym ((fold_tells g j r e).1 m i) ∙ ap (λ (b : Bool). cond b (some (gives r m)) none) (applies_never r m on),
-    λ None-passes. back None-passes r.never refl,
+    λ none_passes. back none_passes r.never refl,
   )
     where
       back : ((m : Marking) → marking_fits g.steps m ≡ true → end_of (the_run g m j) ≡ none) → (p : Bool) → r.never ≡ p → r.never ≡ true

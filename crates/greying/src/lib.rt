@@ -21,7 +21,7 @@ pub enum Choice {
 // The steps that are allowed to the person. Refusals 2, 4, 6, 8, 11.
 pub fn allowed_to(g: &Job, m: Marking, person: u64) -> Choice
     ensures value { result ≡ the_choice (graph_of g.now) m person }
-    ensures g_value { g.now ≡ g.now }
+    ensures lent { g.exit.now ≡ g.entry.now }
 {
     let v = rules::check(g);
     if let Verdict::Refused(r) = v {
@@ -33,7 +33,7 @@ pub fn allowed_to(g: &Job, m: Marking, person: u64) -> Choice
 // The steps that are allowed to someone. Refusals 2, 4, 6, 8.
 pub fn allowed_to_someone(g: &Job, m: Marking) -> Choice
     ensures value { result ≡ the_choice_of_all (graph_of g.now) m }
-    ensures g_value { g.now ≡ g.now }
+    ensures lent { g.exit.now ≡ g.entry.now }
 {
     let v = rules::check(g);
     if let Verdict::Refused(r) = v {

@@ -167,7 +167,7 @@ fn say_join_page(page: &mut Page) {
     say(
         page,
         b"Prints the joined record and writes its 65 bytes to OUT.\n\
-          Refusals: 2 (N is not 1 to 64), 10 (a record is not well_formed_lem for N steps).\n",
+          Refusals: 2 (N is not 1 to 64), 10 (a record is not well-formed for N steps).\n",
     );
 }
 

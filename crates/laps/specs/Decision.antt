@@ -1,5 +1,5 @@
 -- What the code decides by: the stem and the lap twice, and the steps that stay due and included, and are not done, through the second lap.
--- Nothing here has to be believed: specs/Laws.antt shows that it is the answer.
+-- Nothing here has to be believed: proofs/Laws.antt shows that it is the answer.
 use Rattle.std.specs.Prelude.{ℕ, ◌+◌, List, [], ◌∷◌, cond}
 use Rattle.sets.specs.Sets.{single, meet, minus, empty, full, lowest}
 use Rattle.rules.specs.Graph.{Graph}

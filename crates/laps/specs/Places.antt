@@ -32,11 +32,11 @@ use Rattle.laps.specs.Repeats.{Decides, for_ever, starving_from, period_decides}
 
 module _ (stem lap : List Entry) (some : 0 < length lap) where
   -- the lap's first and second time begin at
-  abbrev first_lap_lem : ℕ
-  first_lap_lem = length stem
+  abbrev first_lap_at : ℕ
+  first_lap_at = length stem
 
-  abbrev second_lap_lem : ℕ
-  second_lap_lem = length stem + length lap
+  abbrev second_lap_at : ℕ
+  second_lap_at = length stem + length lap
 
   pub in_stem : (d : ℕ) → d < length stem → (endless_run stem lap d ≡ get_or stem d (entry_of 0 0 0)) × (index_at stem lap d ≡ d)
       × (pass_at stem lap d ≡ 0)
@@ -57,14 +57,14 @@ module _ (stem lap : List Entry) (some : 0 < length lap) where
       let r : (i - length stem) % length lap ≡ d = place i d h p in
       (simp (q, r), simp (q, r))
 
-  pub pass_first : (i : ℕ) → length stem ≤ i → i < second_lap_lem → pass_at stem lap i ≡ 1
+  pub pass_first : (i : ℕ) → length stem ≤ i → i < second_lap_at → pass_at stem lap i ≡ 1
   unfolding pass_at
   pass_first i h l =
       let q : ltb i (length stem) ≡ false = le-ltb i (length stem) h in
       let r : ltb i (length stem + length lap) ≡ true = lt-ltb i (length stem + length lap) l in
       simp (q, r)
 
-  pub pass_second : (i : ℕ) → second_lap_lem ≤ i → i < second_lap_lem + length lap → pass_at stem lap i ≡ 2
+  pub pass_second : (i : ℕ) → second_lap_at ≤ i → i < second_lap_at + length lap → pass_at stem lap i ≡ 2
   unfolding pass_at
   pass_second i h l =
       let q : ltb i (length stem) ≡ false = le-ltb i (length stem) (let z : length stem ≤ i = omega arith in z) in
@@ -73,7 +73,7 @@ module _ (stem lap : List Entry) (some : 0 < length lap) where
       simp (q, r, t)
 
   -- before the third time there is no pass 3
-  pass_low : (i : ℕ) → i < second_lap_lem + length lap → pass_at stem lap i < 3
+  pass_low : (i : ℕ) → i < second_lap_at + length lap → pass_at stem lap i < 3
   unfolding pass_at
   pass_low i h = go (ltb i (length stem)) (ltb i (length stem + length lap))
     where
@@ -101,14 +101,14 @@ module _ (stem lap : List Entry) (some : 0 < length lap) where
   stem_stands = chunk_is (endless_run stem lap) (entry_of 0 0 0) stem 0
       (λ k h. ap (endless_run stem lap) (let z : 0 + k ≡ k = omega arith in z) ∙ (in_stem k h).0)
 
-  pub lap_stands : chunk (endless_run stem lap) (length lap) first_lap_lem ≡ lap
+  pub lap_stands : chunk (endless_run stem lap) (length lap) first_lap_at ≡ lap
   lap_stands =
-      chunk_is (endless_run stem lap) (entry_of 0 0 0) lap first_lap_lem
+      chunk_is (endless_run stem lap) (entry_of 0 0 0) lap first_lap_at
       (λ k h. (in_lap (length stem + k) k h (inl refl) (let z : length stem ≤ length stem + k = omega arith in z)).0)
 
-  pub lap_stands_again : chunk (endless_run stem lap) (length lap) second_lap_lem ≡ lap
+  pub lap_stands_again : chunk (endless_run stem lap) (length lap) second_lap_at ≡ lap
   lap_stands_again =
-      chunk_is (endless_run stem lap) (entry_of 0 0 0) lap second_lap_lem
+      chunk_is (endless_run stem lap) (entry_of 0 0 0) lap second_lap_at
       (λ k h. (in_lap (length stem + length lap + k) k h (inr refl)
       (let z : length stem ≤ length stem + length lap + k = omega arith in z)).0)
 
@@ -124,36 +124,36 @@ module _ (stem lap : List Entry) (some : 0 < length lap) where
     abbrev says : ℕ → Verdict
     says i = verdict_at g m e i
 
-    marking_again : M (second_lap_lem + length lap) ≡ M second_lap_lem
+    marking_again : M (second_lap_at + length lap) ≡ M second_lap_at
     marking_again =
-        let one : M second_lap_lem ≡ after_all g (M first_lap_lem) lap = sym (after_chunk g m e (length lap) first_lap_lem)
-        ∙ ap (after_all g (M first_lap_lem)) lap_stands in
-        let two : M (second_lap_lem + length lap) ≡ after_all g (M second_lap_lem) lap = sym (after_chunk g m e (length lap) second_lap_lem)
-        ∙ ap (after_all g (M second_lap_lem)) lap_stands_again in
-        two ∙ ap (λ (x : Marking). after_all g x lap) one ∙ after_twice g lap (M first_lap_lem) ∙ sym one
+        let one : M second_lap_at ≡ after_all g (M first_lap_at) lap = sym (after_chunk g m e (length lap) first_lap_at)
+        ∙ ap (after_all g (M first_lap_at)) lap_stands in
+        let two : M (second_lap_at + length lap) ≡ after_all g (M second_lap_at) lap = sym (after_chunk g m e (length lap) second_lap_at)
+        ∙ ap (after_all g (M second_lap_at)) lap_stands_again in
+        two ∙ ap (λ (x : Marking). after_all g x lap) one ∙ after_twice g lap (M first_lap_at) ∙ sym one
 
-    entry_again : (i : ℕ) → second_lap_lem ≤ i → e (i + length lap) ≡ e i
+    entry_again : (i : ℕ) → second_lap_at ≤ i → e (i + length lap) ≡ e i
     entry_again i h = run_again i (let z : length stem ≤ i = omega arith in z)
 
     -- a lap allowed twice is allowed for ever
-    pub twice_for_ever : ((i : ℕ) → i < second_lap_lem + length lap → says i ≡ Verdict.Clear) → Unbarred g m e
-    twice_for_ever h = for_ever g m e second_lap_lem (length lap) some entry_again marking_again h
+    pub twice_for_ever : ((i : ℕ) → i < second_lap_at + length lap → says i ≡ Verdict.Clear) → Unbarred g m e
+    twice_for_ever h = for_ever g m e second_lap_at (length lap) some entry_again marking_again h
 
     -- the steps that wait throughout the second lap are those that starve
-    pub second_decides : (w x : ℕ) → Throughout g m e second_lap_lem (length lap) w x → ((i s : ℕ) → DueAt g m e i s → has w s ≡ true)
+    pub second_decides : (w x : ℕ) → Throughout g m e second_lap_at (length lap) w x → ((i s : ℕ) → DueAt g m e i s → has w s ≡ true)
         → Decides g m e x
-    second_decides = period_decides g m e second_lap_lem (length lap) some entry_again marking_again
+    second_decides = period_decides g m e second_lap_at (length lap) some entry_again marking_again
 
     -- a step that starves waits at every position from the end of the first lap on
-    pub starving_laps : (s : ℕ) → Starving g m e s → (i : ℕ) → second_lap_lem ≤ i → Waiting g m e i s
-    starving_laps = starving_from g m e second_lap_lem (length lap) some entry_again marking_again
+    pub starving_laps : (s : ℕ) → Starving g m e s → (i : ℕ) → second_lap_at ≤ i → Waiting g m e i s
+    starving_laps = starving_from g m e second_lap_at (length lap) some entry_again marking_again
 
     -- pass 3 never occurs
     pub never_later : graph_verdict g ≡ Verdict.Clear → Inside g.steps m → (k : ℕ) (r : Refusal) → Stops g m stem lap k Pass.Later r → ⊥
     unfolding number_of_pass
-    never_later clear within k r s = go (dec_lt s.position (second_lap_lem + length lap))
+    never_later clear within k r s = go (dec_lt s.position (second_lap_at + length lap))
       where
-        go : Dec (s.position < second_lap_lem + length lap) → ⊥
+        go : Dec (s.position < second_lap_at + length lap) → ⊥
         go (yes h) = let low : pass_at stem lap s.position < 3 = pass_low s.position h in let is : 3 ≡ pass_at stem lap s.position =
             s.pass in omega arith
         go (no h) =

@@ -45,8 +45,8 @@ applies_none r m e = eqb-true (lacks r m) 0 (and_right (not r.never) (empty (lac
 abbrev marking_of : List ℕ → Marking
 marking_of v = record { done = get_or v 0 0; due = 0; included = get_or v 1 0 }
 
-abbrev record_of_lem : List ℕ → Record
-record_of_lem v =
+abbrev record_of : List ℕ → Record
+record_of v =
     record {
       never = false;
       needin = get_or v 2 0;
@@ -109,8 +109,8 @@ barred a b = meet b.needin (minus a.inclear a.inset)
 -- what b lacks after the changes of a
 lacks_after : (a b : Record) (m : Marking) → union (lacks (compose (changes a) (needs b)) m) (barred a b) ≡ lacks b (gives a m)
 lacks_after a b m =
-    as_sets (λ v. union (lacks (compose (changes (record_of_lem v)) (needs (record_of_lem v))) (marking_of v)) (barred (record_of_lem v) (record_of_lem v)))
-    (λ v. lacks (record_of_lem v) (gives (record_of_lem v) (marking_of v)))
+    as_sets (λ v. union (lacks (compose (changes (record_of v)) (needs (record_of v))) (marking_of v)) (barred (record_of v) (record_of v)))
+    (λ v. lacks (record_of v) (gives (record_of v) (marking_of v)))
     (m.done ∷ m.included ∷ b.needin ∷ b.needex ∷ b.needout ∷ a.done ∷ a.inset ∷ a.inclear ∷ [])
     (λ i. simp at_digit) (λ i. simp at_digit) refl
 
@@ -201,22 +201,22 @@ gives_again r m i =
 
 lacks_sorted : (r : Record) (m : Marking) → lacks (sorted r) m ≡ lacks r m
 lacks_sorted r m =
-    as_sets (λ v. lacks (sorted (record_of_lem v)) (marking_of v)) (λ v. lacks (record_of_lem v) (marking_of v))
+    as_sets (λ v. lacks (sorted (record_of v)) (marking_of v)) (λ v. lacks (record_of v) (marking_of v))
     (m.done ∷ m.included ∷ r.needin ∷ r.needex ∷ r.needout ∷ [])
     (λ i. simp at_digit) (λ i. simp at_digit) refl
 
 -- where the record applies, what it would do again is left out
 done_sorted : (r : Record) (m : Marking) → lacks r m ≡ 0 → (gives (sorted r) m).done ≡ (gives r m).done
 done_sorted r m =
-    by_digits (λ v. lacks (record_of_lem v) (marking_of v)) (λ v. (gives (sorted (record_of_lem v)) (marking_of v)).done)
-    (λ v. (gives (record_of_lem v) (marking_of v)).done)
+    by_digits (λ v. lacks (record_of v) (marking_of v)) (λ v. (gives (sorted (record_of v)) (marking_of v)).done)
+    (λ v. (gives (record_of v) (marking_of v)).done)
     (m.done ∷ m.included ∷ r.needin ∷ r.needex ∷ r.needout ∷ r.done ∷ [])
     (λ i. simp at_digit) (λ i. simp at_digit) (λ i. simp at_digit) refl
 
 included_sorted : (r : Record) (m : Marking) → lacks r m ≡ 0 → (gives (sorted r) m).included ≡ (gives r m).included
 included_sorted r m =
-    by_digits (λ v. lacks (record_of_lem v) (marking_of v)) (λ v. (gives (sorted (record_of_lem v)) (marking_of v)).included)
-    (λ v. (gives (record_of_lem v) (marking_of v)).included)
+    by_digits (λ v. lacks (record_of v) (marking_of v)) (λ v. (gives (sorted (record_of v)) (marking_of v)).included)
+    (λ v. (gives (record_of v) (marking_of v)).included)
     (m.done ∷ m.included ∷ r.needin ∷ r.needex ∷ r.needout ∷ r.done ∷ r.inset ∷ r.inclear ∷ [])
     (λ i. simp at_digit) (λ i. simp at_digit) (λ i. simp at_digit) refl
 

@@ -71,7 +71,7 @@ pub fn check(g: &Job) -> Verdict
 // May the step be taken? Nothing is changed by asking. Refusals 2, 4, 6, 8, 11 to 15.
 pub fn ask(g: &Job, m: Marking, e: Entry) -> Asked
     ensures value { result ≡ the_asked (graph_of g.now) m e }
-    ensures g_value { g.now ≡ g.now }
+    ensures lent { g.exit.now ≡ g.entry.now }
 {
     let v = check(g);
     if let Verdict::Refused(r) = v {

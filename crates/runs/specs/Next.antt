@@ -16,9 +16,9 @@ use Rattle.journal.specs.Laws.{fits_threes, entries_append, run_clear}
 use Rattle.runs.specs.Runs.{and_then, run_append, Runnable, ended_passes, passes_run}
 
 -- what is told of entry k, asked for in marking m, with `next` the marking after it
-unfoldable pub next_of_lem : ℕ → Marking → Asked → Marking → Ran
-next_of_lem k m Asked.Allowed next = Ran.Ended next (k + 1)
-next_of_lem k m (Asked.Refused r) next = Ran.Stopped k m r
+unfoldable pub next_of : ℕ → Marking → Asked → Marking → Ran
+next_of k m Asked.Allowed next = Ran.Ended next (k + 1)
+next_of k m (Asked.Refused r) next = Ran.Stopped k m r
 
 -- there is room for it: a full journal has none
 pub room_fits : (j : List ℕ) (p s r : ℕ) → length_fits j ≡ true → length j + 3 ≤ 65535 → length_fits (j ++ p ∷ s ∷ r ∷ []) ≡ true
@@ -28,8 +28,8 @@ room_fits j p s r f room =
     and_intro (eq-eqb (length (j ++ p ∷ s ∷ r ∷ []) % 3) 0 (omega arith)) (le-leb (length (j ++ p ∷ s ∷ r ∷ [])) 65535 (omega arith))
 
 pub asked_next : (g : Graph) (m m' : Marking) (k : ℕ) (j : List ℕ) (p s r : ℕ) → the_run g m j ≡ Ran.Ended m' k → length j + 3 ≤ 65535
-    → the_run g m (j ++ p ∷ s ∷ r ∷ []) ≡ next_of_lem k m' (the_asked g m' (entry_of p s r)) (after_entry g m' (entry_of p s r))
-unfolding and_then run_from go_on entries the_move move_of next_of_lem
+    → the_run g m (j ++ p ∷ s ∷ r ∷ []) ≡ next_of k m' (the_asked g m' (entry_of p s r)) (after_entry g m' (entry_of p s r))
+unfolding and_then run_from go_on entries the_move move_of next_of
 asked_next g m m' k j p s r ended room =
     let all = ended_passes g m m' k j ended in
     let ready : Runnable g m j = all.0 in
@@ -44,6 +44,6 @@ asked_next g m m' k j p s r ended room =
   where
     go : (o : Asked)
         → go_on k m' (move_of o m' (after_entry g m' (entry_of p s r))) (λ next. Ran.Ended next (k + 1))
-        ≡ next_of_lem k m' o (after_entry g m' (entry_of p s r))
+        ≡ next_of k m' o (after_entry g m' (entry_of p s r))
     go Asked.Allowed = refl
     go (Asked.Refused q) = refl

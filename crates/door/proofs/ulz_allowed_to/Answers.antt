@@ -5,4 +5,4 @@ use Rattle.door.proofs.ulz_allowed_to.Goals as goal
 pub returns : goal.returns
 returns c =
     let told = c.allowed.ensures in
-    record { number_value = rw c.allowed_to-o.ensures.value at told.number_value; steps_value = rw c.allowed_to-o.ensures.value at told.steps_value; g_value = refl }
+    record { number_value = rw c.allowed_to-o.ensures.value at told.number_value; steps_value = rw c.allowed_to-o.ensures.value at told.steps_value; lent = refl }

@@ -8,7 +8,7 @@ pub returns-in-Refused : goal.returns-in-Refused
 returns-in-Refused c =
     let a = c.args in
     let verdict = sym c.check-v.ensures ∙ c.in-Refused.is in
-    record { value = sym (choice_refused (graph_of a.g.now) a.m a.person _ verdict); g_value = refl }
+    record { value = sym (choice_refused (graph_of a.g.now) a.m a.person _ verdict); lent = refl }
 
 pub choice_on-requires : goal.choice_on-requires
 choice_on-requires c = sym c.check-v.ensures ∙ c.in_default.is

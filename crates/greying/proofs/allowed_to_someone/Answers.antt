@@ -8,7 +8,7 @@ pub returns-in-Refused : goal.returns-in-Refused
 returns-in-Refused c =
     let a = c.args in
     let verdict = sym c.check-v.ensures ∙ c.in-Refused.is in
-    record { value = sym (all_refused (graph_of a.g.now) a.m _ verdict); g_value = refl }
+    record { value = sym (all_refused (graph_of a.g.now) a.m _ verdict); lent = refl }
 
 pub choice_of_all_on-requires : goal.choice_of_all_on-requires
 choice_of_all_on-requires c = sym c.check-v.ensures ∙ c.in_default.is

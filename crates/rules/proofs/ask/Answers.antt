@@ -8,7 +8,7 @@ pub returns-in-Refused : goal.returns-in-Refused
 returns-in-Refused c =
     let a = c.args in
     let verdict = sym c.check-v.ensures ∙ c.in-Refused.is in
-    record { value = sym (asked_refused (graph_of a.g.now) a.m a.e _ verdict); g_value = refl }
+    record { value = sym (asked_refused (graph_of a.g.now) a.m a.e _ verdict); lent = refl }
 
 pub ask_on-requires : goal.ask_on-requires
 ask_on-requires c = sym c.check-v.ensures ∙ c.in_default.is
@@ -17,4 +17,4 @@ pub returns : goal.returns
 returns c =
     let a = c.args in
     let verdict = sym c.check-v.ensures ∙ c.in_default.is in
-    record { value = c.ask_on.ensures ∙ sym (asked_clear (graph_of a.g.now) a.m a.e verdict); g_value = refl }
+    record { value = c.ask_on.ensures ∙ sym (asked_clear (graph_of a.g.now) a.m a.e verdict); lent = refl }

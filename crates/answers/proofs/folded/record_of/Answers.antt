@@ -1,4 +1,4 @@
--- `record_of_lem`: a first word above 1 is no never, and any other is 0 or 1. Assumes nothing.
+-- `record_of`: a first word above 1 is no never, and any other is 0 or 1. Assumes nothing.
 use mathlib.Core.Path.{◌≡◌}
 use mathlib.Core.Bool.{true, false}
 use lib.ListN.{get_or}
