@@ -36,27 +36,23 @@ fn say_allowed(page: &mut Page, g: &Job, m: Marking, e: Entry) {
 
 // The step is allowed to the person: in which roles?
 fn say_roles(page: &mut Page, g: &Job, m: Marking, s: u8, p: u8) {
-    let mut r = 0;
-    while r < 16 {
+    for r in 0..16 {
         let e = Entry {
             person: p,
             step: Step(s),
             role: r,
         };
         say_allowed(page, g, m, e);
-        r += 1;
     }
 }
 
 fn say_people(page: &mut Page, g: &Job, m: Marking, to: &[u64; 16], s: u8)
     requires { s < 64 }
 {
-    let mut p = 0;
-    while p < 16 {
+    for p in 0..16 {
         if sets::has(to[p], s) {
             say_roles(page, g, m, s, p as u8);
         }
-        p += 1;
     }
 }
 
@@ -103,12 +99,10 @@ fn say_choice(page: &mut Page, g: &Job, m: Marking, o: Shown, s: u8)
 }
 
 fn say_choices(page: &mut Page, g: &Job, m: Marking, o: Shown) {
-    let mut s = 0;
-    while s < 64 {
+    for s in 0..64 {
         if (s as u64) < g[0] {
             say_choice(page, g, m, o, s);
         }
-        s += 1;
     }
 }
 

@@ -77,14 +77,14 @@ pub fn ask(page: &mut Page, p: Places, g: &Job, m: Marking, j: &[u8], e: Stated)
 }
 
 // Are the entry's bytes behind the k entries of the journal that argument `at` names, if it was found? Else it was complained of.
-fn is_kept(at: usize, found: bool, k: u16, e: Entry) -> bool {
+fn is_kept(page: &Page, at: usize, found: bool, k: u16, e: Entry) -> bool {
     let bytes = [e.person, e.step.0, e.role];
     let end = End {
         at: at,
         found: found,
         length: 3 * (k as u32),
     };
-    append(end, &bytes)
+    append(&page.rt(), end, &bytes)
 }
 
 fn say_taken(page: &mut Page, g: &Job, after: Marking, k: u16, e: Stated) -> Answer {
@@ -108,7 +108,7 @@ fn take_at(
     let o = rules::take(g, m, entry);
     match o {
         Move::Moved(after) => {
-            if !is_kept(at, p.journal != 0, k, entry) {
+            if !is_kept(page, at, p.journal != 0, k, entry) {
                 return Answer::Failed;
             }
             say_taken(page, g, after, k, e)

@@ -4,14 +4,14 @@ use moves::{Marking, NONE};
 use rules::Job;
 
 // The people spoken of.
-#[derive(Drop)]
+#[derive(Clone, Copy)]
 pub enum Whom {
     Everyone,
     Person(u64),
 }
 
 // The steps that are allowed to them, those that they hold a role for, and those that are allowed to each of them.
-#[derive(Drop)]
+#[derive(Clone, Copy)]
 pub struct Shown {
     pub whom: Whom,
     pub now: u64,
@@ -62,10 +62,8 @@ fn steps_to(g: &Job, m: Marking, w: Whom, p: u64) -> u64 {
 
 fn steps_to_each(g: &Job, m: Marking, w: Whom) -> [u64; 16] {
     let mut to = [0u64; 16];
-    let mut p = 0;
-    while p < 16 {
+    for p in 0..16 {
         to[p] = steps_to(g, m, w, p as u64);
-        p += 1;
     }
     to
 }

@@ -1,8 +1,7 @@
 // Wrong use, each with its one line.
-use check::same;
 use commands::nearest::nearest;
 use commands::{Command, Numbers, Shape};
-use files::arguments::Call;
+use files::arguments::{Call, PATH_MAX, argument};
 use files::complaints::{complain, complain_of};
 use guide::usage::{say_command_word, say_use};
 use lines::names::say_name;
@@ -48,22 +47,22 @@ fn operands(c: Call) -> usize {
     c.count - 1
 }
 
-fn is_dash(i: usize) -> bool {
+fn is_dash(rt: &HostRuntime, i: usize) -> bool {
     if i == 0 {
         return false;
     }
-    let mut name = io::buffer();
-    let n = os::arg(i, &mut name);
-    same(&name[..n], b"-")
+    let mut name = [0u8; PATH_MAX];
+    let n = argument(rt, i, &mut name);
+    matches!(&name[..n], b"-")
 }
 
-pub fn complain_none() {
-    complain(b"ulz: no command; 'ulz help' lists them\n");
+pub fn complain_none(rt: &HostRuntime) {
+    complain(rt, b"ulz: no command; 'ulz help' lists them\n");
 }
 
 // A page is put together first, so that the complaint is one write.
-pub fn complain_unknown(word: &[u8]) {
-    let mut page = output::page::blank();
+pub fn complain_unknown(rt: &HostRuntime, word: &[u8]) {
+    let mut page = output::page::blank(*rt);
     say(&mut page, b"ulz: ");
     say_name(&mut page, word);
     say(&mut page, b": unknown command; did you mean '");
@@ -73,20 +72,20 @@ pub fn complain_unknown(word: &[u8]) {
 }
 
 // What is wrong with the file that argument i names.
-pub fn complain_at(i: usize, what: &[u8]) {
-    let mut name = io::buffer();
-    let n = os::arg(i, &mut name);
-    complain_of(&name[..n], what);
+pub fn complain_at(rt: &HostRuntime, i: usize, what: &[u8]) {
+    let mut name = [0u8; PATH_MAX];
+    let n = argument(rt, i, &mut name);
+    complain_of(rt, &name[..n], what);
 }
 
-fn complain_option(i: usize) {
-    let mut word = io::buffer();
-    let n = os::arg(i, &mut word);
-    complain_of(&word[..n], b"unknown option");
+fn complain_option(rt: &HostRuntime, i: usize) {
+    let mut word = [0u8; PATH_MAX];
+    let n = argument(rt, i, &mut word);
+    complain_of(rt, &word[..n], b"unknown option");
 }
 
-fn complain_use(c: Command) {
-    let mut page = output::page::blank();
+fn complain_use(rt: &HostRuntime, c: Command) {
+    let mut page = output::page::blank(*rt);
     say(&mut page, b"ulz: usage: ");
     say_use(&mut page, c);
     say(&mut page, b"\n");
@@ -94,8 +93,8 @@ fn complain_use(c: Command) {
 }
 
 // The option is known, but is none of this command's.
-fn complain_untaken(c: Command, option: &[u8]) {
-    let mut page = output::page::blank();
+fn complain_untaken(rt: &HostRuntime, c: Command, option: &[u8]) {
+    let mut page = output::page::blank(*rt);
     say(&mut page, b"ulz: ");
     say(&mut page, option);
     say(&mut page, b": 'ulz ");
@@ -112,21 +111,21 @@ fn writes(c: Command, s: Shape) -> bool {
     has_out(s) & (s.out < s.most)
 }
 
-fn has_untaken(c: Command, s: Shape, call: Call) -> bool {
+fn has_untaken(rt: &HostRuntime, c: Command, s: Shape, call: Call) -> bool {
     if call.force & !writes(c, s) {
-        complain_untaken(c, b"--force");
+        complain_untaken(rt, c, b"--force");
         return true;
     }
     if call.never & !s.never {
-        complain_untaken(c, b"--never");
+        complain_untaken(rt, c, b"--never");
         return true;
     }
     if call.status & !s.status {
-        complain_untaken(c, b"--status");
+        complain_untaken(rt, c, b"--status");
         return true;
     }
     if (call.from != 0) & !s.from {
-        complain_untaken(c, b"--from");
+        complain_untaken(rt, c, b"--from");
         return true;
     }
     false
@@ -144,58 +143,58 @@ fn forces_nothing(c: Command, s: Shape, call: Call) -> bool {
 }
 
 // Is a word of the call wrong whatever the command? Then it was complained of.
-pub fn is_wrong_word(call: Call) -> bool {
+pub fn is_wrong_word(rt: &HostRuntime, call: Call) -> bool {
     if 0 < call.long {
-        complain(b"ulz: an argument is longer than 4,095 bytes\n");
+        complain(rt, b"ulz: an argument is longer than 4,095 bytes\n");
         return true;
     }
     if 0 < call.option {
-        complain_option(call.option);
+        complain_option(rt, call.option);
         return true;
     }
     if 0 < call.lacking {
-        complain(b"ulz: --from: a marking is missing\n");
+        complain(rt, b"ulz: --from: a marking is missing\n");
         return true;
     }
     if call.dashes {
-        complain(b"ulz: '-' is standard input and may stand only once\n");
+        complain(rt, b"ulz: '-' is standard input and may stand only once\n");
         return true;
     }
     false
 }
 
 // Is an entry to be put behind standard input? Then it was complained of.
-fn takes_from_nowhere(c: Command, call: Call) -> bool {
+fn takes_from_nowhere(rt: &HostRuntime, c: Command, call: Call) -> bool {
     let Command::Take = c else {
         return false;
     };
-    if is_dash(place(call, 1)) {
-        complain_of(b"-", b"the journal is a file, and has to be named");
+    if is_dash(rt, place(call, 1)) {
+        complain_of(rt, b"-", b"the journal is a file, and has to be named");
         return true;
     }
     false
 }
 
 // Is the call no use of the command? Then it was complained of.
-pub fn is_wrong(c: Command, s: Shape, call: Call) -> bool {
-    if has_untaken(c, s, call) {
+pub fn is_wrong(rt: &HostRuntime, c: Command, s: Shape, call: Call) -> bool {
+    if has_untaken(rt, c, s, call) {
         return true;
     }
     if operands(call) < s.least {
-        complain_use(c);
+        complain_use(rt, c);
         return true;
     }
     if s.most < operands(call) {
-        complain_use(c);
+        complain_use(rt, c);
         return true;
     }
     if forces_nothing(c, s, call) {
-        complain(b"ulz: --force: this call writes no file\n");
+        complain(rt, b"ulz: --force: this call writes no file\n");
         return true;
     }
-    if is_dash(out_of(s, call)) {
-        complain_of(b"-", b"the output is a file, and has to be named");
+    if is_dash(rt, out_of(s, call)) {
+        complain_of(rt, b"-", b"the output is a file, and has to be named");
         return true;
     }
-    takes_from_nowhere(c, call)
+    takes_from_nowhere(rt, c, call)
 }

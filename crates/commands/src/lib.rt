@@ -1,9 +1,10 @@
 // The commands, what each takes, and which one a word means.
 #![tactic(auto)]
+
 pub mod nearest;
 pub mod words;
 
-#[derive(Drop)]
+#[derive(Clone, Copy)]
 pub enum Command {
     Check,
     Show,
@@ -31,7 +32,7 @@ pub enum Command {
 
 // The numbers among the operands: none; N or the arms of a mast before the files; or an entry, a person or the size of a store behind
 // them, where else the file to write stands.
-#[derive(Drop)]
+#[derive(Clone, Copy)]
 pub enum Numbers {
     None,
     Count,
@@ -43,7 +44,7 @@ pub enum Numbers {
 
 // The operands of a command: the numbers among them, how many stand before the file to write, and how few and how many there may be.
 // Then the options that not every command takes.
-#[derive(Drop)]
+#[derive(Clone, Copy)]
 pub struct Shape {
     pub numbers: Numbers,
     pub out: usize,

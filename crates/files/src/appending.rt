@@ -1,11 +1,14 @@
 // Bytes put behind a file: all of them are there and on the device, or the file is as it was.
+use crate::arguments::{PATH_MAX, argument};
 use crate::complaints::{complain_of, complain_reason};
-use crate::known::{is_regular, known_of};
-use crate::reasons::last_error;
-use crate::writing::{claimed, sync_name, unclaim};
+use crate::known::{ended, is_regular, known_of};
+use crate::reasons::{ENOENT, last_error};
+use crate::writing::{claimed, error_of, sync_name, unclaim};
+use std::fs::{File, OpenOptions};
+use std::io::{Seek, SeekFrom, Write};
 
 // What stands under a name that bytes are to be put behind. Other was complained of.
-#[derive(Drop)]
+#[derive(Clone, Copy)]
 pub enum Place {
     File,
     Free,
@@ -13,7 +16,7 @@ pub enum Place {
 }
 
 // The file's name is an argument; how long it was when it was read, or there was none.
-#[derive(Drop)]
+#[derive(Clone, Copy)]
 pub struct End {
     pub at: usize,
     pub found: bool,
@@ -26,108 +29,107 @@ const SHORT: i32 = -1;
 // No error of the system's: the file has another length than it had.
 const CHANGED: i32 = -2;
 
-fn place_of(name: &[u8]) -> Place {
-    let k = known_of(name);
+fn place_of(rt: &HostRuntime, name: &[u8]) -> Place {
+    let k = known_of(rt, name);
     if k.found {
         if is_regular(k) {
             return Place::File;
         }
-        complain_of(name, b"is there and is no ordinary file");
+        complain_of(rt, name, b"is there and is no ordinary file");
         return Place::Other;
     }
-    if k.error == libc::ENOENT {
+    if k.error == ENOENT {
         return Place::Free;
     }
-    complain_reason(name, k.error);
+    complain_reason(rt, name, k.error);
     Place::Other
 }
 
 // Of the name that is argument i.
-pub fn looked_up(i: usize) -> Place {
-    let mut name = io::buffer();
-    let n = os::arg(i, &mut name);
-    place_of(&name[..n])
+pub fn looked_up(rt: &HostRuntime, i: usize) -> Place {
+    let mut name = [0u8; PATH_MAX];
+    let n = argument(rt, i, &mut name);
+    place_of(rt, &name[..n])
 }
 
 // One write: whoever reads the file finds all of the bytes, or none, wherever this process ends.
-fn put(fd: i32, bytes: &[u8]) -> i32 {
-    let got = libc::write(fd, bytes);
-    if got < 0 {
-        return last_error();
+fn put(file: &mut File, bytes: &[u8]) -> i32 {
+    match file.write(bytes) {
+        Err(e) => last_error(&e),
+        Ok(count) if count < bytes.len() => SHORT,
+        Ok(_) => error_of(file.sync_all()),
     }
-    if io::count(got, bytes) < bytes.len() {
-        return SHORT;
-    }
-    if libc::fsync(fd) < 0 {
-        return last_error();
-    }
-    0
 }
 
 // What was written is taken back where not all of it is there, or where it may not be on the device.
-fn put_behind(fd: i32, length: i64, bytes: &[u8]) -> i32 {
-    if libc::lseek(fd, 0, libc::SEEK_END) != length {
+fn put_behind(file: &mut File, length: u64, bytes: &[u8]) -> i32 {
+    if !matches!(file.seek(SeekFrom::End(0)), Ok(end) if end == length) {
         return CHANGED;
     }
-    let error = put(fd, bytes);
+    let error = put(file, bytes);
     if error != 0 {
-        libc::ftruncate(fd, length);
+        let _ = file.set_len(length);
     }
     error
 }
 
-fn added(name: &[u8], length: i64, bytes: &[u8]) -> i32 {
-    let fd = os::open_append(name);
-    if fd < 0 {
-        return last_error();
+fn open_append(rt: &HostRuntime, name: &[u8]) -> Result<File, i32> {
+    let path = ended(name)?;
+    OpenOptions::new()
+        .append(true)
+        .open(rt, path)
+        .map_err(|e| last_error(&e))
+}
+
+fn added(rt: &HostRuntime, name: &[u8], length: u64, bytes: &[u8]) -> i32 {
+    match open_append(rt, name) {
+        Ok(mut file) => put_behind(&mut file, length, bytes),
+        Err(error) => error,
     }
-    let error = put_behind(fd, length, bytes);
-    libc::close(fd);
-    error
 }
 
 // Among those who make a file of that name, one makes it.
-fn made(name: &[u8], bytes: &[u8]) -> i32 {
-    let claim = claimed(name, false);
+fn made(rt: &HostRuntime, name: &[u8], bytes: &[u8]) -> i32 {
+    let claim = claimed(rt, name, false);
     if claim.error != 0 {
         return claim.error;
     }
-    let error = added(name, 0, bytes);
+    let error = added(rt, name, 0, bytes);
     if error != 0 {
-        unclaim(name);
+        unclaim(rt, name);
         return error;
     }
-    sync_name(name);
+    sync_name(rt, name);
     0
 }
 
 // The number of the error, or 0: the bytes are there.
-fn lengthened(name: &[u8], found: bool, length: u32, bytes: &[u8]) -> i32 {
+fn lengthened(rt: &HostRuntime, name: &[u8], found: bool, length: u32, bytes: &[u8]) -> i32 {
     if found {
-        return added(name, length as i64, bytes);
+        return added(rt, name, length as u64, bytes);
     }
-    made(name, bytes)
+    made(rt, name, bytes)
 }
 
-fn complain_unchanged(name: &[u8], error: i32) {
+fn complain_unchanged(rt: &HostRuntime, name: &[u8], error: i32) {
     if error == SHORT {
-        complain_of(name, b"not all of the bytes could be written");
+        complain_of(rt, name, b"not all of the bytes could be written");
         return;
     }
     if error == CHANGED {
-        complain_of(name, b"has changed since it was read");
+        complain_of(rt, name, b"has changed since it was read");
         return;
     }
-    complain_reason(name, error);
+    complain_reason(rt, name, error);
 }
 
 // Were the bytes put behind the file? Else it was complained of.
-pub fn append(end: End, bytes: &[u8]) -> bool {
-    let mut name = io::buffer();
-    let n = os::arg(end.at, &mut name);
-    let error = lengthened(&name[..n], end.found, end.length, bytes);
+pub fn append(rt: &HostRuntime, end: End, bytes: &[u8]) -> bool {
+    let mut name = [0u8; PATH_MAX];
+    let n = argument(rt, end.at, &mut name);
+    let error = lengthened(rt, &name[..n], end.found, end.length, bytes);
     if error != 0 {
-        complain_unchanged(&name[..n], error);
+        complain_unchanged(rt, &name[..n], error);
         return false;
     }
     true

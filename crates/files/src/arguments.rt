@@ -1,11 +1,15 @@
 // What the program was called with.
-use check::same;
-use libc::PATH_MAX;
+ghost use Rattle.std.specs.Prelude.{◌≤◌, length};
+
+use std::env::{Env, FillError};
+
+// The most bytes of a path, with the 0 that ends it.
+pub const PATH_MAX: usize = 4096;
 
 // The places of the first six operands, the command before its own, and the number of operands, where seven stands for more; which
 // options were given; the place of the value of --from, or 0; is `-` among what names a file, once or more often. Then what is wrong:
 // the place of the first option that is none, of an option whose value is missing, and of the first argument that is too long, or 0.
-#[derive(Drop)]
+#[derive(Clone, Copy)]
 pub struct Call {
     pub at: [usize; 6],
     pub count: usize,
@@ -24,7 +28,7 @@ pub struct Call {
 }
 
 // What a word asks that begins with `-`. End is `--`: no word behind it is an option.
-#[derive(Drop)]
+#[derive(Clone, Copy)]
 enum Flag {
     Force,
     Never,
@@ -36,12 +40,22 @@ enum Flag {
     Unknown,
 }
 
-// Is the argument that was read just now, at that length, whole? One that is longer than a path is not taken.
-pub fn is_whole(length: usize) -> bool {
-    if os::errno() != 0 {
-        return false;
+// Is the argument whole that was read so? One that is longer than a path is not taken.
+pub fn is_whole(read: Result<usize, FillError>) -> bool {
+    match read {
+        Ok(length) => length < PATH_MAX,
+        Err(_) => false,
     }
-    length < PATH_MAX
+}
+
+// Puts argument i at the start of the room and answers its length, or 0 where it is missing or does not fit.
+pub fn argument(rt: &HostRuntime, i: usize, room: &mut [u8]) -> usize
+    ensures { result ≤ length room.new }
+{
+    match rt.arg(i, room) {
+        Ok(length) => length,
+        Err(_) => 0,
+    }
 }
 
 fn first_of(earlier: usize, i: usize) -> usize {
@@ -122,51 +136,49 @@ fn is_option(word: &[u8]) -> bool {
 }
 
 fn flag_of(word: &[u8]) -> Flag {
-    if same(word, b"--force") {
-        return Flag::Force;
+    match word {
+        b"--force" => Flag::Force,
+        b"--never" => Flag::Never,
+        b"--status" => Flag::Status,
+        b"--from" => Flag::From,
+        b"-h" | b"--help" => Flag::Help,
+        b"--version" => Flag::Version,
+        b"--" => Flag::End,
+        _ => Flag::Unknown,
     }
-    if same(word, b"--never") {
-        return Flag::Never;
-    }
-    if same(word, b"--status") {
-        return Flag::Status;
-    }
-    if same(word, b"--from") {
-        return Flag::From;
-    }
-    if same(word, b"-h") | same(word, b"--help") {
-        return Flag::Help;
-    }
-    if same(word, b"--version") {
-        return Flag::Version;
-    }
-    if same(word, b"--") {
-        return Flag::End;
-    }
-    Flag::Unknown
 }
 
-fn with_word(mut c: Call, i: usize) -> Call {
-    let mut word = io::buffer();
-    let n = os::arg(i, &mut word);
-    if !is_whole(n) {
-        c.long = first_of(c.long, i);
-        return c;
-    }
-    let dash = same(&word[..n], b"-");
+fn with_word(c: Call, i: usize, word: &[u8]) -> Call {
+    let dash = matches!(word, b"-");
     if c.lacking != 0 {
         return with_value(with_dash(c, dash), i);
     }
     if c.ended {
         return with_operand(with_dash(c, dash), i);
     }
-    if is_option(&word[..n]) {
-        return with_flag(c, i, flag_of(&word[..n]));
+    if is_option(word) {
+        return with_flag(c, i, flag_of(word));
     }
     with_operand(with_dash(c, dash), i)
 }
 
-pub fn called() -> Call {
+fn with_argument(rt: &HostRuntime, mut c: Call, i: usize) -> Call {
+    let mut word = [0u8; PATH_MAX];
+    let read = rt.arg(i, &mut word);
+    if !is_whole(read) {
+        c.long = first_of(c.long, i);
+        return c;
+    }
+    let n = argument(rt, i, &mut word);
+    with_word(c, i, &word[..n])
+}
+
+// Was the program called with that many words?
+fn has_argument(rt: &HostRuntime, i: usize) -> bool {
+    !matches!(rt.arg(i, &mut [0u8; 1]), Err(FillError::NotPresent))
+}
+
+pub fn called(rt: &HostRuntime) -> Call {
     let mut c = Call {
         at: [0; 6],
         count: 0,
@@ -183,17 +195,17 @@ pub fn called() -> Call {
         lacking: 0,
         long: 0,
     };
-    let words = os::arg_count();
-    let mut i = 1;
-    while i < words {
-        c = with_word(c, i);
-        i += 1;
+    for i in 1..usize::MAX {
+        if !has_argument(rt, i) {
+            break;
+        }
+        c = with_argument(rt, c, i);
     }
     c
 }
 
 // A number, or none.
-#[derive(Drop)]
+#[derive(Clone, Copy)]
 pub enum Number {
     Is(u64),
     None,
@@ -204,12 +216,10 @@ fn is_digit(b: u8) -> bool {
 }
 
 fn all_digits(word: &[u8]) -> bool {
-    let mut i = 0;
-    while i < word.len() {
-        if !is_digit(word[i]) {
+    for b in word {
+        if !is_digit(*b) {
             return false;
         }
-        i += 1;
     }
     true
 }
@@ -235,10 +245,8 @@ fn with_digit(v: u64, b: u8) -> u64 {
 
 fn value(word: &[u8]) -> u64 {
     let mut v = 0;
-    let mut i = 0;
-    while i < word.len() {
-        v = with_digit(v, word[i]);
-        i += 1;
+    for b in word {
+        v = with_digit(v, *b);
     }
     v
 }

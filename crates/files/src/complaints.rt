@@ -2,57 +2,57 @@
 use crate::joining::{Line, ROOM, join, join_name};
 use crate::reasons::{join_reason, last_error};
 use crate::writing::front;
-use libc::STDERR_FILENO;
+use std::io::{Error, Print};
 
-pub fn complain(text: &[u8]) {
-    io::write_all(STDERR_FILENO, text);
+pub fn complain(rt: &HostRuntime, text: &[u8]) {
+    let _ = rt.stderr().write_all(text);
 }
 
-fn complain_line(line: &Line, n: usize) {
+fn complain_line(rt: &HostRuntime, line: &Line, n: usize) {
     let all = &line[..];
-    io::write_all(STDERR_FILENO, front(all, n));
+    complain(rt, front(all, n));
 }
 
-pub fn complain_name(name: &[u8]) {
+pub fn complain_name(rt: &HostRuntime, name: &[u8]) {
     let mut line = [0u8; ROOM];
     let n = join_name(&mut line, 0, name);
-    complain_line(&line, n);
+    complain_line(rt, &line, n);
 }
 
 // A sentence with a name in it, as a whole line.
-pub fn complain_about(before: &[u8], name: &[u8], behind: &[u8]) {
+pub fn complain_about(rt: &HostRuntime, before: &[u8], name: &[u8], behind: &[u8]) {
     let mut line = [0u8; ROOM];
     let mut n = join(&mut line, 0, b"ulz: ");
     n = join(&mut line, n, before);
     n = join_name(&mut line, n, name);
     n = join(&mut line, n, behind);
     n = join(&mut line, n, b"\n");
-    complain_line(&line, n);
+    complain_line(rt, &line, n);
 }
 
 // What is wrong with the thing of that name.
-pub fn complain_of(name: &[u8], what: &[u8]) {
+pub fn complain_of(rt: &HostRuntime, name: &[u8], what: &[u8]) {
     let mut line = [0u8; ROOM];
     let mut n = join(&mut line, 0, b"ulz: ");
     n = join_name(&mut line, n, name);
     n = join(&mut line, n, b": ");
     n = join(&mut line, n, what);
     n = join(&mut line, n, b"\n");
-    complain_line(&line, n);
+    complain_line(rt, &line, n);
 }
 
 // The system's words for what went wrong with the thing of that name.
-pub fn complain_reason(name: &[u8], error: i32) {
+pub fn complain_reason(rt: &HostRuntime, name: &[u8], error: i32) {
     let mut line = [0u8; ROOM];
     let mut n = join(&mut line, 0, b"ulz: ");
     n = join_name(&mut line, n, name);
     n = join(&mut line, n, b": ");
     n = join_reason(&mut line, n, error);
     n = join(&mut line, n, b"\n");
-    complain_line(&line, n);
+    complain_line(rt, &line, n);
 }
 
 // The same of the call that has just failed.
-pub fn complain_error(name: &[u8]) {
-    complain_reason(name, last_error());
+pub fn complain_error(rt: &HostRuntime, name: &[u8], error: &Error) {
+    complain_reason(rt, name, last_error(error));
 }

@@ -15,13 +15,11 @@ fn shown(b: u8, named: bool) -> u8 {
 
 fn join_as(line: &mut Line, at: usize, text: &[u8], named: bool) -> usize {
     let mut n = at;
-    let mut i = 0;
-    while i < text.len() {
+    for b in text {
         if n < ROOM {
-            line[n] = shown(text[i], named);
+            line[n] = shown(*b, named);
             n += 1;
         }
-        i += 1;
     }
     n
 }

@@ -1,101 +1,82 @@
 // What the system knows of a file.
-ghost use Rattle.libc.specs.Io.{Ended};
+use crate::arguments::{PATH_MAX, argument};
+use crate::reasons::{EILSEQ, last_error};
+use std::fs;
+use std::os::unix::fs::MetadataExt;
 
-use crate::reasons::last_error;
-use check::same;
-use libc::PATH_MAX;
-use libc::types::{stat, timespec};
+// The bits of a mode that tell the kind of a file, and two kinds.
+const S_IFMT: u32 = 0o170000;
 
-const LAST: usize = PATH_MAX - 1;
+const S_IFDIR: u32 = 0o040000;
+
+const S_IFREG: u32 = 0o100000;
 
 // Where the file lies, its mode and its length; or it was not found, because of the error.
-#[derive(Drop)]
+#[derive(Clone, Copy)]
 pub struct Known {
     pub dev: u64,
     pub ino: u64,
     pub mode: u32,
-    pub size: i64,
+    pub size: u64,
     pub found: bool,
     pub error: i32,
 }
 
-fn no_time() -> timespec {
-    timespec {
-        tv_sec: 0,
-        tv_nsec: 0,
-    }
-}
-
-fn nothing() -> stat {
-    stat {
-        st_dev: 0,
-        st_ino: 0,
-        st_nlink: 0,
-        st_mode: 0,
-        st_uid: 0,
-        st_gid: 0,
-        __pad: 0,
-        st_rdev: 0,
-        st_size: 0,
-        st_blksize: 0,
-        st_blocks: 0,
-        st_atim: no_time(),
-        st_mtim: no_time(),
-        st_ctim: no_time(),
-        __unused: [0; 3],
-    }
-}
-
-// What is known of the file at the path; as it was where there is none.
-fn told(path: &[u8; PATH_MAX], mut s: stat) -> stat
-    requires { Ended path.now }
-{
-    libc::stat(path, &mut s);
-    s
-}
-
-// The name as the system takes it, as far as there is room.
-fn ended(name: &[u8]) -> [u8; PATH_MAX]
-    ensures { Ended result }
-{
-    let mut path = io::buffer();
-    let mut i = 0;
-    while i < name.len() {
-        if i >= LAST {
-            break;
-        }
-        path[i] = name[i];
-        i += 1;
-    }
-    path[LAST] = 0;
-    path
-}
-
-// Every file has a kind, so that a mode of 0 is none.
-pub fn known_of(name: &[u8]) -> Known {
-    let path = ended(name);
-    let s = told(&path, nothing());
-    let error = last_error();
+fn nothing(error: i32) -> Known {
     Known {
-        dev: s.st_dev,
-        ino: s.st_ino,
-        mode: s.st_mode,
-        size: s.st_size,
-        found: (s.st_mode != 0) & (name.len() <= LAST),
+        dev: 0,
+        ino: 0,
+        mode: 0,
+        size: 0,
+        found: false,
         error: error,
     }
 }
 
+// What is known of the file at the path.
+fn told(rt: &HostRuntime, path: &str) -> Known {
+    match fs::metadata(rt, path) {
+        Ok(m) => Known {
+            dev: m.dev(),
+            ino: m.ino(),
+            mode: m.mode(),
+            size: m.size(),
+            found: true,
+            error: 0,
+        },
+        Err(e) => nothing(last_error(&e)),
+    }
+}
+
+// The name as a path, or the number of the error: a path is text here, and a name that is none leads nowhere.
+pub fn ended(name: &[u8]) -> Result<&str, i32> {
+    match str::from_utf8(name) {
+        Ok(path) => Ok(path),
+        Err(_) => Err(EILSEQ),
+    }
+}
+
+pub fn known_of(rt: &HostRuntime, name: &[u8]) -> Known {
+    match ended(name) {
+        Ok(path) => told(rt, path),
+        Err(error) => nothing(error),
+    }
+}
+
+pub fn is_folder(k: Known) -> bool {
+    k.mode & S_IFMT == S_IFDIR
+}
+
 pub fn is_regular(k: Known) -> bool {
-    k.mode & libc::S_IFMT == libc::S_IFREG
+    k.mode & S_IFMT == S_IFREG
 }
 
 // What an argument names; `-` is standard input, and names nothing.
-pub fn known_argument(i: usize) -> Known {
-    let mut name = io::buffer();
-    let n = os::arg(i, &mut name);
-    if same(&name[..n], b"-") {
-        return known_of(b"");
+pub fn known_argument(rt: &HostRuntime, i: usize) -> Known {
+    let mut name = [0u8; PATH_MAX];
+    let n = argument(rt, i, &mut name);
+    match &name[..n] {
+        b"-" => known_of(rt, b""),
+        path => known_of(rt, path),
     }
-    known_of(&name[..n])
 }

@@ -1,11 +1,17 @@
 // Files read whole.
-ghost use Rattle.io.specs.Counts.{IsPrefixLen};
+ghost use Rattle.std.specs.Prelude.{[]};
+ghost use Rattle.files.specs.Counts.{IsPrefixLen};
+ghost use Rattle.std.specs.Io.{ReadsAtMost};
 
-use crate::complaints::complain_error;
-use check::same;
+use crate::arguments::{PATH_MAX, argument};
+use crate::complaints::{complain_error, complain_reason};
+use crate::known::ended;
+use std::fs::File;
+use std::io;
+use std::io::{Error, ErrorKind, Read};
 
 // How many bytes stand at the start of the room; or the reading failed, and was complained of.
-#[derive(Drop)]
+#[derive(Clone, Copy)]
 pub struct Got {
     pub length: usize,
     pub failed: bool,
@@ -15,81 +21,87 @@ pub struct Got {
 const AGAIN: usize = 100;
 
 // One read, begun again where a signal came before the first byte.
-fn read_some(fd: i32, part: &mut [u8]) -> isize {
-    let mut tries = 0;
-    while tries < AGAIN {
-        let got = libc::read(fd, part);
-        if 0 <= got {
-            return got;
+fn read_some(from: &mut impl Read, part: &mut [u8]) -> io::Result<usize>
+    ensures { ReadsAtMost result part.new }
+{
+    for _ in 0..AGAIN {
+        match from.read(part) {
+            Err(e) if e.kind() == ErrorKind::Interrupted => {}
+            read => return read,
         }
-        if os::errno() != libc::EINTR {
-            return got;
-        }
-        tries += 1;
     }
-    -1
+    Err(Error::from(ErrorKind::Interrupted))
 }
 
 // Reads until the room is full or the input ends.
-fn read_all(fd: i32, room: &mut [u8]) -> Got
-    ensures { IsPrefixLen result.length room.new }
+fn read_all(from: &mut impl Read, room: &mut [u8]) -> io::Result<usize>
+    ensures { ReadsAtMost result room.new }
 {
     let mut done = 0;
     while done < room.len() {
-        let part = &mut room[done..];
-        let got = read_some(fd, part);
-        if got < 0 {
-            return Got {
-                length: 0,
-                failed: true,
-            };
-        }
-        let more = io::count(got, part);
+        let more = read_some(from, &mut room[done..])?;
         if more == 0 {
             break;
         }
         done += more;
     }
-    Got {
-        length: done,
-        failed: false,
+    Ok(done)
+}
+
+fn read_named(rt: &HostRuntime, from: &mut impl Read, name: &[u8], room: &mut [u8]) -> Got
+    ensures { IsPrefixLen result.length room.new }
+{
+    match read_all(from, room) {
+        Ok(length) => Got {
+            length: length,
+            failed: false,
+        },
+        Err(e) => {
+            complain_error(rt, name, &e);
+            nothing(true)
+        }
     }
 }
 
-fn read_named(fd: i32, name: &[u8], room: &mut [u8]) -> Got
+fn nothing(failed: bool) -> Got
+    ensures { IsPrefixLen result.length [] }
+{
+    Got {
+        length: 0,
+        failed: failed,
+    }
+}
+
+fn fetch_named(rt: &HostRuntime, name: &[u8], room: &mut [u8]) -> Got
     ensures { IsPrefixLen result.length room.new }
 {
-    let got = read_all(fd, room);
-    if got.failed {
-        complain_error(name);
+    let path = match ended(name) {
+        Ok(path) => path,
+        Err(error) => {
+            complain_reason(rt, name, error);
+            return nothing(true);
+        }
+    };
+    match File::open(rt, path) {
+        Ok(mut file) => read_named(rt, &mut file, name, room),
+        Err(e) => {
+            complain_error(rt, name, &e);
+            nothing(true)
+        }
     }
-    got
 }
 
 // The file that argument i names, or standard input. Argument 0 names the program, and stands for no file: nothing is read.
-pub fn fetch(i: usize, room: &mut [u8]) -> Got
+pub fn fetch(rt: &HostRuntime, i: usize, room: &mut [u8]) -> Got
     ensures { IsPrefixLen result.length room.new }
 {
     if i == 0 {
-        return Got {
-            length: 0,
-            failed: false,
-        };
+        return nothing(false);
     }
-    let mut name = io::buffer();
-    let n = os::arg(i, &mut name);
-    if same(&name[..n], b"-") {
-        return read_named(libc::STDIN_FILENO, &name[..n], room);
+    let mut name = [0u8; PATH_MAX];
+    let n = argument(rt, i, &mut name);
+    match &name[..n] {
+        b"-" => read_named(rt, &mut rt.stdin(), b"-", room),
+        path => fetch_named(rt, path, room),
     }
-    let fd = os::open_read(&name[..n]);
-    if fd < 0 {
-        complain_error(&name[..n]);
-        return Got {
-            length: 0,
-            failed: true,
-        };
-    }
-    let got = read_named(fd, &name[..n], room);
-    libc::close(fd);
-    got
 }

@@ -9,7 +9,7 @@ abbrev pub held_in : ℕ → ℕ → Held
 held_in set steps = record { set = set; steps = steps }
 
 -- the first of three sets that has a member, counted from 0, and its members; the last where none has
-unfoldable pub earliest_of : ℕ → ℕ → ℕ → Held
+abbrev pub earliest_of : ℕ → ℕ → ℕ → Held
 earliest_of a b c = cond {A = Held} (empty a) (cond {A = Held} (empty b) (held_in 2 c) (held_in 1 b)) (held_in 0 a)
 
 -- the members of x that are not below n

@@ -2,7 +2,7 @@
 -- Assumes nothing.
 use Rattle.std.specs.Prelude.{ℕ, ◌≡◌, refl, Bool, true, false, not, ◌&&◌, cond}
 use Rattle.std.proofs.Common.{sym, ap, ap₂, ◌∙◌}
-use Rattle.sets.specs.Sets.{meet, minus, full, empty, subset, within}
+use Rattle.sets.specs.Sets.{meet, minus, empty}
 use Rattle.sets.specs.Laws.{subset_full}
 use Rattle.moves.specs.declared.Marking.{Marking}
 use Rattle.moves.specs.Move.{marking_fits}
@@ -19,7 +19,6 @@ first_cases false q a b c e f = e
 
 -- the first of three sets has no member exactly if none of them has
 pub first_empty : (a b c : ℕ) → empty (earliest_of a b c).steps ≡ (empty a && empty b && empty c)
-unfolding earliest_of
 first_empty a b c = first_cases (empty a) (empty b) a b c refl refl
 
 -- 8, and 4 of a sheet's marking: something is beyond exactly if the marking does not fit

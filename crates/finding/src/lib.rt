@@ -1,5 +1,6 @@
 // What made a number hold: looked for in the input, and said below the refusal in two lines, what was found and what was expected there.
 #![tactic(auto)]
+
 pub mod arms;
 pub mod entries;
 pub mod journals;

@@ -4,7 +4,7 @@ ghost use Rattle.sets.specs.Sets.{minus};
 ghost use Rattle.finding.specs.Found.{earliest_of, members_beyond};
 
 // One of several sets, counted from 0, and steps of it; none where there is nothing to say.
-#[derive(Drop)]
+#[derive(Clone, Copy)]
 pub struct Held {
     pub set: u8,
     pub steps: u64,

@@ -10,7 +10,7 @@ use output::page::Page;
 use records::Record;
 
 // A pair of sets, by its place in the order of the rule, and the steps that both have.
-#[derive(Drop)]
+#[derive(Clone, Copy)]
 pub struct Clash {
     pub pair: u8,
     pub steps: u64,
@@ -39,8 +39,7 @@ fn first_beyond(s: &[u8], n: u64) -> Held {
     if 64 < n {
         return Held { set: 0, steps: 0 };
     }
-    let mut i = 0;
-    while i < 8 {
+    for i in 0..8 {
         let more = beyond(n, set(s, i));
         if more != 0 {
             return Held {
@@ -48,7 +47,6 @@ fn first_beyond(s: &[u8], n: u64) -> Held {
                 steps: more,
             };
         }
-        i += 1;
     }
     Held { set: 0, steps: 0 }
 }
@@ -77,8 +75,7 @@ fn other_of(pair: u8) -> u8 {
 }
 
 fn first_clash(s: &[u8]) -> Clash {
-    let mut i = 0;
-    while i < 6 {
+    for i in 0..6 {
         let both = set(s, one_of(i)) & set(s, other_of(i));
         if both != 0 {
             return Clash {
@@ -86,7 +83,6 @@ fn first_clash(s: &[u8]) -> Clash {
                 steps: both,
             };
         }
-        i += 1;
     }
     Clash { pair: 0, steps: 0 }
 }

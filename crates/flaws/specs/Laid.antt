@@ -19,7 +19,7 @@ is_nothing (Size body size wants) = false
 is_nothing Nothing = true
 
 -- body 1 has `counts` bytes, body 2 has 24, and those of body 5 are a multiple of 3
-unfoldable pub sizes_fit : ℕ → List ℕ → Bool
+abbrev pub sizes_fit : ℕ → List ℕ → Bool
 sizes_fit counts s = eqb (size_at s 0) counts && eqb (size_at s 1) 24 && eqb (size_at s 4 % 3) 0
 
 -- the contents and those sizes are of the form
@@ -38,7 +38,7 @@ turned false b false d e f g = refl
 -- the reader's tests, in the order in which a finding asks
 pub laid_out : (s : List ℕ) → layout_fits s
     ≡ (eqb (get_or s 0 0) (form_of s).bodies && leb (form_of s).least (length s) && leb (length s) (form_of s).most && parts_fit (form_of s) s)
-unfolding layout_fits sizes_fit
+unfolding layout_fits
 laid_out s =
     turned (leb (form_of s).least (length s)) (leb (length s) (form_of s).most) (eqb (get_or s 0 0) (form_of s).bodies)
     (follows (form_of s).bodies 0 (start (form_of s).bodies) s)

@@ -11,7 +11,7 @@ use output::page::Page;
 use reading::form_of;
 
 // Bodies are counted from 1, as in the contents.
-#[derive(Drop)]
+#[derive(Clone, Copy)]
 pub enum Fault {
     // this many bytes
     Length(usize),

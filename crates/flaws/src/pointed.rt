@@ -4,7 +4,7 @@ use finding::words::{say_found, say_known, say_size, say_wanted};
 use lines::say::{say, say_number};
 use output::page::Page;
 
-#[derive(Drop)]
+#[derive(Clone, Copy)]
 pub struct Arrow {
     pub kind: u8,
     pub from: u8,
@@ -12,7 +12,7 @@ pub struct Arrow {
 }
 
 // What is wrong with an arrow, if anything.
-#[derive(Drop)]
+#[derive(Clone, Copy)]
 pub enum Why {
     Kind,
     Step,
@@ -21,7 +21,7 @@ pub enum Why {
 }
 
 // A step and the steps that it both includes and excludes.
-#[derive(Drop)]
+#[derive(Clone, Copy)]
 pub struct Both {
     pub from: u64,
     pub steps: u64,
@@ -97,14 +97,12 @@ fn is_wrong(w: Why) -> bool {
 // The first arrow that is wrong; as many as there are, where none is.
 fn wrong_at(body: &[u8], n: usize) -> usize {
     let count = body.len() / 3;
-    let mut k = 0;
-    while k < count {
+    for k in 0..count {
         if is_wrong(wrong_with(body, k, n)) {
             return k;
         }
-        k += 1;
     }
-    k
+    count
 }
 
 fn say_triple(page: &mut Page, a: Arrow) {
@@ -142,8 +140,7 @@ pub fn say_wrong(page: &mut Page, s: &[u8]) {
 }
 
 fn shared(table: &[u64; 256]) -> Both {
-    let mut a = 0;
-    while a < 64 {
+    for a in 0..64 {
         let both = table[128 + a] & table[192 + a];
         if both != 0 {
             return Both {
@@ -151,7 +148,6 @@ fn shared(table: &[u64; 256]) -> Both {
                 steps: both,
             };
         }
-        a += 1;
     }
     Both { from: 0, steps: 0 }
 }

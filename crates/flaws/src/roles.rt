@@ -9,7 +9,7 @@ use moves::Marking;
 use output::page::Page;
 
 // A role set that names roles beyond the count: whose it is, and those roles; none where it is empty.
-#[derive(Drop)]
+#[derive(Clone, Copy)]
 pub struct Extra {
     pub at: usize,
     pub roles: u64,
@@ -147,13 +147,11 @@ pub fn say_sizes(page: &mut Page, s: &[u8]) {
 pub fn first_extra(s: &[u8], from: usize, count: usize, roles: u64) -> Extra
     requires { (from < 65536) × (count < 256) × (roles ≤ 64) }
 {
-    let mut i = 0;
-    while i < count {
+    for i in 0..count {
         let more = beyond(roles, two(s, from + 2 * i) as u64);
         if more != 0 {
             return Extra { at: i, roles: more };
         }
-        i += 1;
     }
     Extra { at: 0, roles: 0 }
 }
@@ -179,12 +177,10 @@ fn first_unknown(s: &[u8], from: usize, count: usize, actions: usize) -> usize
     requires { (from < 65536) × (count < 256) }
     ensures { result < 256 }
 {
-    let mut i = 0;
-    while i < count {
+    for i in 0..count {
         if actions <= byte(s, from + i) {
             return i;
         }
-        i += 1;
     }
     0
 }

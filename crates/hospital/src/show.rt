@@ -1,79 +1,81 @@
 // States as plain lines.
+use itoa::Buffer;
 use moves::Marking;
 use rules::{CONDITIONS, Job};
 use tracker::Track;
 
-pub fn say(text: &[u8]) {
-    io::write_all(1, text);
+pub fn say(rt: &impl Print, text: &[u8]) {
+    let _ = rt.write_all(text);
 }
 
-pub fn say_name(s: u8) {
+pub fn say_name(rt: &impl Print, s: u8) {
     match s {
-        0 => say(b"sign"),
-        1 => say(b"give medicine"),
-        2 => say(b"prescribe medicine"),
-        _ => say(b"don't trust"),
+        0 => say(rt, b"sign"),
+        1 => say(rt, b"give medicine"),
+        2 => say(rt, b"prescribe medicine"),
+        _ => say(rt, b"don't trust"),
     }
 }
 
 // What the icons of Fig. 5 say of a step: its box dashed if it is excluded, a tick if it has been done, a mark if it is due, and a
 // sign if a condition of it is included and not done.
-fn say_step(conditions: u64, m: Marking, s: u8) {
+fn say_step(rt: &impl Print, conditions: u64, m: Marking, s: u8) {
     if 63 < s {
         return;
     }
-    say(b"  ");
-    say_name(s);
-    say(b":");
+    say(rt, b"  ");
+    say_name(rt, s);
+    say(rt, b":");
     if sets::has(m.included, s) {
-        say(b" included");
+        say(rt, b" included");
     } else {
-        say(b" excluded");
+        say(rt, b" excluded");
     }
     if sets::has(m.done, s) {
-        say(b", done");
+        say(rt, b", done");
     }
     if sets::has(m.due, s) {
-        say(b", due");
+        say(rt, b", due");
     }
     if moves::inner::waits(conditions, m) != 0 {
-        say(b", blocked");
+        say(rt, b", blocked");
     }
-    say(b"\n");
+    say(rt, b"\n");
 }
 
-pub fn say_marking(g: &Job, m: Marking) {
-    say_step(g[CONDITIONS + 2], m, 2);
-    say_step(g[CONDITIONS], m, 0);
-    say_step(g[CONDITIONS + 1], m, 1);
+pub fn say_marking(rt: &impl Print, g: &Job, m: Marking) {
+    say_step(rt, g[CONDITIONS + 2], m, 2);
+    say_step(rt, g[CONDITIONS], m, 0);
+    say_step(rt, g[CONDITIONS + 1], m, 1);
     if 3 < g[0] {
-        say_step(g[CONDITIONS + 3], m, 3);
+        say_step(rt, g[CONDITIONS + 3], m, 3);
     }
     if m.due & m.included == 0 {
-        say(b"  finished\n");
+        say(rt, b"  finished\n");
     } else {
-        say(b"  not finished\n");
+        say(rt, b"  not finished\n");
     }
 }
 
-pub fn say_track(t: Track) {
+pub fn say_track(rt: &impl Print, t: Track) {
     let m = t.marking;
     let due = m.due & m.included;
-    say(b": rank ");
-    io::print_decimal(1, t.rank.0 as u64);
+    say(rt, b": rank ");
+    let mut rank = Buffer::new();
+    say(rt, rank.format(t.rank.0).as_bytes());
     if t.flag {
-        say(b", accepting, due:");
+        say(rt, b", accepting, due:");
     } else {
-        say(b", not accepting, due:");
+        say(rt, b", not accepting, due:");
     }
     if sets::has(due, 0) {
-        say(b" sign");
+        say(rt, b" sign");
     }
     if sets::has(due, 1) {
-        say(b" give medicine");
+        say(rt, b" give medicine");
     }
     if due == 0 {
-        say(b" nothing");
+        say(rt, b" nothing");
     }
-    say(b"\n");
+    say(rt, b"\n");
 }

@@ -1,5 +1,6 @@
 // The lines that the program prints, `key: value` each.
 #![tactic(auto)]
+
 pub mod names;
 pub mod places;
 pub mod refusals;

@@ -1,4 +1,5 @@
 // Names as they were typed: files, and words that are none of the program's.
+use files::arguments::{PATH_MAX, argument};
 use output::page::{Page, put, say};
 
 // A name may hold an end of line, and it is to stand in one line.
@@ -13,10 +14,8 @@ fn shown(b: u8) -> u8 {
 }
 
 pub fn say_name(page: &mut Page, name: &[u8]) {
-    let mut i = 0;
-    while i < name.len() {
-        put(page, shown(name[i]));
-        i += 1;
+    for b in name {
+        put(page, shown(*b));
     }
 }
 
@@ -25,8 +24,8 @@ pub fn say_file(page: &mut Page, i: usize) {
     if i == 0 {
         return;
     }
-    let mut name = io::buffer();
-    let n = os::arg(i, &mut name);
+    let mut name = [0u8; PATH_MAX];
+    let n = argument(&page.rt(), i, &mut name);
     say(page, b"file: ");
     say_name(page, &name[..n]);
     say(page, b"\n");

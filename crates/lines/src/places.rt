@@ -2,7 +2,7 @@
 use moves::Refusal;
 
 // 0 where the call has none. The marking is the one to start at, or to apply a record to; the stem of a lap is a journal.
-#[derive(Drop)]
+#[derive(Clone, Copy)]
 pub struct Places {
     pub sheet: usize,
     pub journal: usize,

@@ -1,10 +1,10 @@
 // Text, numbers and sets on the page.
+use itoa::Buffer;
 pub use output::page::{Page, say};
 
 pub fn say_number(page: &mut Page, n: u64) {
-    let mut text = [0u8; 20];
-    let k = io::decimal(n, &mut text);
-    say(page, &text[..k]);
+    let mut text = Buffer::new();
+    say(page, text.format(n).as_bytes());
 }
 
 // A line: what is counted, and how many.
@@ -36,10 +36,8 @@ fn say_later(page: &mut Page, x: u64, low: u8, s: u8) {
 }
 
 fn say_rest(page: &mut Page, x: u64, low: u8) {
-    let mut s = 0;
-    while s < 64 {
+    for s in 0..64 {
         say_later(page, x, low, s);
-        s += 1;
     }
 }
 

@@ -30,7 +30,7 @@ pub fn say_ending(page: &mut Page, e: Ending, m: Marking) -> Answer {
 }
 
 // An entry as somebody states it: a number may be too large for any entry.
-#[derive(Drop)]
+#[derive(Clone, Copy)]
 pub struct Stated {
     pub person: u64,
     pub step: u64,

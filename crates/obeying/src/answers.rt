@@ -3,6 +3,7 @@ use asking::whom::Whom;
 use calling::wrong::{complain_at, complain_unknown};
 use commands::Command;
 use commands::words::named;
+use files::arguments::{PATH_MAX, argument};
 use files::writing::Target;
 use lines::places::Places;
 use lines::refusals::say_refused;
@@ -15,7 +16,7 @@ use rules::{Job, WORDS};
 // What to answer: the command with its N or its arms, its entry, its people or the markings that its store has room for, the arguments
 // that name its files and the marking to start at, and the file to write. A journal that is added to is both, and none that is read where
 // it is not there yet.
-#[derive(Drop)]
+#[derive(Clone, Copy)]
 pub struct Task {
     pub command: Command,
     pub number: u64,
@@ -59,16 +60,16 @@ fn places_of(t: Task) -> Places {
 }
 
 // A marking is read at its length alone. Has it another? Then it was complained of.
-fn is_no_marking(at: usize, marking: &[u8]) -> bool {
+fn is_no_marking(rt: &HostRuntime, at: usize, marking: &[u8]) -> bool {
     if marking.len() == 24 {
         return false;
     }
-    complain_at(at, b"a marking has 24 bytes");
+    complain_at(rt, at, b"a marking has 24 bytes");
     true
 }
 
 fn apply(page: &mut Page, t: Task, bytes: &[u8], marking: &[u8]) -> Answer {
-    if is_no_marking(t.second, marking) {
+    if is_no_marking(&page.rt(), t.second, marking) {
         return Answer::Failed;
     }
     let m = marking_in(marking);
@@ -87,7 +88,7 @@ fn marking_in(bytes: &[u8]) -> Marking {
 }
 
 fn show_marking(page: &mut Page, t: Task, marking: &[u8]) -> Answer {
-    if is_no_marking(t.first, marking) {
+    if is_no_marking(&page.rt(), t.first, marking) {
         return Answer::Failed;
     }
     say_marking(page, marking_in(marking));
@@ -99,8 +100,8 @@ fn sample(page: &mut Page, o: Target) -> Answer {
     if o.at == 0 {
         return tour::walk::sample(page, b"sample", o.force);
     }
-    let mut folder = io::buffer();
-    let n = os::arg(o.at, &mut folder);
+    let mut folder = [0u8; PATH_MAX];
+    let n = argument(&page.rt(), o.at, &mut folder);
     tour::walk::sample(page, &folder[..n], o.force)
 }
 
@@ -110,11 +111,11 @@ fn help(page: &mut Page, o: Target) -> Answer {
         guide::help::say_help(page);
         return Answer::Answered;
     }
-    let mut word = io::buffer();
-    let n = os::arg(o.at, &mut word);
+    let mut word = [0u8; PATH_MAX];
+    let n = argument(&page.rt(), o.at, &mut word);
     let c = named(&word[..n]);
     if let Command::Unknown = c {
-        complain_unknown(&word[..n]);
+        complain_unknown(&page.rt(), &word[..n]);
         return Answer::Failed;
     }
     guide::help::say_help_of(page, c);
@@ -183,7 +184,7 @@ fn give_started(
     start: &[u8],
 ) -> Answer {
     if t.from != 0 {
-        if is_no_marking(t.from, start) {
+        if is_no_marking(&page.rt(), t.from, start) {
             return Answer::Failed;
         }
     }

@@ -8,7 +8,7 @@ use calling::wrong::{
 use commands::words::{named, shape_of};
 use commands::{Command, Shape};
 use files::appending::{Place, looked_up};
-use files::arguments::Call;
+use files::arguments::{Call, PATH_MAX, argument};
 use files::reading::fetch;
 use files::writing::{Target, same_file};
 use lines::states::Stated;
@@ -17,23 +17,24 @@ use output::status::Answer;
 use reporting::search::MOST;
 
 fn read_and_give(page: &mut Page, t: Task) -> Answer {
-    let mut first = io::large_buffer();
-    let a = fetch(t.first, &mut first);
+    let rt = page.rt();
+    let mut first = [0u8; 65536];
+    let a = fetch(&rt, t.first, &mut first);
     if a.failed {
         return Answer::Failed;
     }
-    let mut second = io::large_buffer();
-    let b = fetch(t.second, &mut second);
+    let mut second = [0u8; 65536];
+    let b = fetch(&rt, t.second, &mut second);
     if b.failed {
         return Answer::Failed;
     }
-    let mut third = io::large_buffer();
-    let c = fetch(t.third, &mut third);
+    let mut third = [0u8; 65536];
+    let c = fetch(&rt, t.third, &mut third);
     if c.failed {
         return Answer::Failed;
     }
-    let mut start = io::buffer();
-    let d = fetch(t.from, &mut start);
+    let mut start = [0u8; PATH_MAX];
+    let d = fetch(&rt, t.from, &mut start);
     if d.failed {
         return Answer::Failed;
     }
@@ -103,26 +104,27 @@ fn numbered(mut t: Task, number: u64) -> Task {
     t
 }
 
-fn is_input(t: Task) -> bool {
+fn is_input(rt: &HostRuntime, t: Task) -> bool {
     let out = t.target.at;
-    if same_file(out, t.first) {
+    if same_file(rt, out, t.first) {
         return true;
     }
-    if same_file(out, t.second) {
+    if same_file(rt, out, t.second) {
         return true;
     }
-    if same_file(out, t.third) {
+    if same_file(rt, out, t.third) {
         return true;
     }
-    same_file(out, t.from)
+    same_file(rt, out, t.from)
 }
 
 // Would the call write over a file that it reads? Then it was complained of.
-fn writes_over(t: Task) -> bool {
-    if !is_input(t) {
+fn writes_over(rt: &HostRuntime, t: Task) -> bool {
+    if !is_input(rt, t) {
         return false;
     }
     complain_at(
+        rt,
         t.target.at,
         b"is read by this call, and is not written over",
     );
@@ -130,7 +132,7 @@ fn writes_over(t: Task) -> bool {
 }
 
 fn obey_task(page: &mut Page, t: Task) -> Answer {
-    if writes_over(t) {
+    if writes_over(&page.rt(), t) {
         return Answer::Failed;
     }
     read_and_give(page, t)
@@ -145,10 +147,10 @@ fn obey_taking(page: &mut Page, mut t: Task) -> Answer {
         force: false,
     };
     t.target = o;
-    if writes_over(t) {
+    if writes_over(&page.rt(), t) {
         return Answer::Failed;
     }
-    let there = looked_up(journal);
+    let there = looked_up(&page.rt(), journal);
     match there {
         Place::File => {
             t.second = journal;
@@ -170,11 +172,11 @@ fn obey_stated(page: &mut Page, mut t: Task, e: Stated) -> Answer {
 
 fn obey(page: &mut Page, c: Command, call: Call) -> Answer {
     let s = shape_of(c);
-    if is_wrong(c, s, call) {
+    if is_wrong(&page.rt(), c, s, call) {
         return Answer::Failed;
     }
     let n = s.numbers;
-    let o = stated_in(n, call);
+    let o = stated_in(&page.rt(), n, call);
     let t = task_of(c, s, call, o);
     match o {
         Stating::Count(number) => obey_task(page, numbered(t, number)),
@@ -198,7 +200,7 @@ fn answer_without(page: &mut Page, call: Call) -> Answer {
         guide::help::say_help(page);
         return Answer::Answered;
     }
-    complain_none();
+    complain_none(&page.rt());
     Answer::Failed
 }
 
@@ -208,18 +210,18 @@ fn answer_command(page: &mut Page, call: Call) -> Answer {
         return answer_without(page, call);
     }
     let at = call.at;
-    let mut word = io::buffer();
-    let n = os::arg(at[0], &mut word);
+    let mut word = [0u8; PATH_MAX];
+    let n = argument(&page.rt(), at[0], &mut word);
     let c = named(&word[..n]);
     if let Command::Unknown = c {
-        complain_unknown(&word[..n]);
+        complain_unknown(&page.rt(), &word[..n]);
         return Answer::Failed;
     }
     obey_or_help(page, c, call)
 }
 
 pub fn answer(page: &mut Page, call: Call) -> Answer {
-    if is_wrong_word(call) {
+    if is_wrong_word(&page.rt(), call) {
         return Answer::Failed;
     }
     if call.version {

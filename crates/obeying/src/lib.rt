@@ -1,4 +1,5 @@
 // The program between its arguments and its answers.
 #![tactic(auto)]
+
 mod answers;
 pub mod calls;

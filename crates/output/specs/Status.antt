@@ -1,10 +1,11 @@
 -- What the program's exit status says.
-use Rattle.std.specs.Prelude.{ℕ, Bool, cond, List, get_or, eqb}
+use Rattle.std.specs.Prelude.{ℕ, Bool, cond, not}
+use Rattle.output.specs.declared.page.Page.{Page}
 use Rattle.output.specs.declared.status.Answer.{Answer}
 use Rattle.output.specs.declared.status.Answer.TheVariants.{Answered, No, Unsure, Refused, Failed}
 
 -- 0 answered, 1 refused by a number, 2 anything else: wrong use, a file that cannot be read or written
-unfoldable pub plain_of : Answer → ℕ
+abbrev pub plain_of : Answer → ℕ
 plain_of Answered = 0
 plain_of No = 0
 plain_of Unsure = 0
@@ -12,7 +13,7 @@ plain_of Refused = 1
 plain_of Failed = 2
 
 -- asked for as yes or no: 0 yes, 1 no, 2 anything else, where it is neither and a refusal too
-unfoldable pub asked_of : Answer → ℕ
+abbrev pub asked_of : Answer → ℕ
 asked_of Answered = 0
 asked_of No = 1
 asked_of Unsure = 2
@@ -27,5 +28,5 @@ abbrev pub status_of : Bool → Answer → Bool → ℕ
 status_of asked a whole = cond whole (said_of asked a) 2
 
 -- the page's mark of a write that failed is down
-abbrev pub is_whole : List ℕ → Bool
-is_whole page = eqb (get_or page 8194 0) 0
+abbrev pub is_whole : Page → Bool
+is_whole page = not page.torn

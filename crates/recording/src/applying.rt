@@ -13,7 +13,7 @@ use running::markings::{keep_marking, say_kept};
 use running::runs::say_ran;
 
 fn say_given(page: &mut Page, m: Marking, t: Target) -> Answer {
-    if !keep_marking(t, m) {
+    if !keep_marking(page, t, m) {
         return Answer::Failed;
     }
     say_marking(page, m);

@@ -19,7 +19,7 @@ fn keep_record(page: &mut Page, n: u64, r: Record, t: Target) -> Answer {
     match v {
         Verdict::Refused(refusal) => say_refused(page, 0, refusal),
         Verdict::Clear => {
-            if !store_to(t, &room) {
+            if !store_to(&page.rt(), t, &room) {
                 return Answer::Failed;
             }
             say_record(page, r);

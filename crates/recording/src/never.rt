@@ -50,12 +50,10 @@ fn excludes_at(g: &Job, j: &[u8], i: u16, s: u8) -> bool {
 // The last entry before k that excludes step s.
 fn excluder(g: &Job, j: &[u8], k: u16, s: u8) -> u16 {
     let mut last = 0u16;
-    let mut i = 0u16;
-    while i < k {
+    for i in 0..k {
         if excludes_at(g, j, i, s) {
             last = i;
         }
-        i += 1;
     }
     last
 }
@@ -92,6 +90,7 @@ pub fn say_never(page: &mut Page, g: &Job, j: &[u8]) -> Answer {
         say_because(page, g, j, k, r);
     }
     complain(
+        &page.rt(),
         b"ulz: fold: no marking lets this journal pass, nothing is written; --never writes the record that says so\n",
     );
     Answer::Failed

@@ -1,4 +1,5 @@
 // Whether a job can still end from a marking, in lines.
 #![tactic(auto)]
+
 pub mod ends;
 pub mod search;

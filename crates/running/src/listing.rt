@@ -10,13 +10,11 @@ use output::status::Answer;
 const MOST: u16 = 21845;
 
 fn say_entries(page: &mut Page, j: &[u8], count: usize) {
-    let mut k = 0u16;
-    while k < MOST {
+    for k in 0..MOST {
         if count <= k as usize {
             return;
         }
         say_entry_at(page, j, k);
-        k += 1;
     }
 }
 

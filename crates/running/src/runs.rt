@@ -69,7 +69,7 @@ pub fn say_unstarted(page: &mut Page, at: usize, g: &Job, m: Marking, r: Refusal
 }
 
 fn say_ended(page: &mut Page, g: &Job, m: Marking, entries: u16, t: Target) -> Answer {
-    if !keep_marking(t, m) {
+    if !keep_marking(page, t, m) {
         return Answer::Failed;
     }
     say_count(page, b"entries", entries as u64);

@@ -12,7 +12,7 @@ use rules::Job;
 use tracker::{Track, Tracked};
 
 // A state, whether the track goes on from it, and whether an entry was refused there.
-#[derive(Drop)]
+#[derive(Clone, Copy)]
 struct Going {
     track: Track,
     on: bool,
@@ -89,13 +89,11 @@ fn onward(page: &mut Page, p: Places, g: &Job, t: Track, j: &[u8], k: usize) -> 
 // A journal has at most 21,845 entries.
 fn follow(page: &mut Page, p: Places, g: &Job, start: Track, j: &[u8]) -> Going {
     let mut at = goes(start);
-    let mut k = 0;
-    while k < 21846 {
+    for k in 0..21846 {
         at = onward(page, p, g, at.track, j, k);
         if !at.on {
             return at;
         }
-        k += 1;
     }
     at
 }

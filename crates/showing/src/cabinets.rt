@@ -15,7 +15,7 @@ fn say_unwritten(page: &mut Page, arms: u64, r: Refusal) -> Answer {
 }
 
 pub fn write(page: &mut Page, arms: u64, t: Target) -> Answer {
-    let mut room = io::large_buffer();
+    let mut room = [0u8; 65536];
     let w = cabinet::write(arms, &mut room);
     match w {
         Written::Length(n) => keep(page, front(&room, n), t),

@@ -23,10 +23,8 @@ fn named(x: u64) -> u64
 // The four tables of arrows stand one behind the other.
 pub fn say_arrow_count(page: &mut Page, g: &Job) {
     let mut total = 0;
-    let mut i = CONDITIONS;
-    while i < ALLOWS {
-        total += named(g[i]);
-        i += 1;
+    for x in &g[CONDITIONS..ALLOWS] {
+        total += named(*x);
     }
     say_count(page, b"arrows", total);
 }
@@ -44,12 +42,10 @@ fn say_person(page: &mut Page, p: u64, roles: u64) {
 }
 
 pub fn say_people(page: &mut Page, g: &Job) {
-    let mut p = 0;
-    while p < 16 {
+    for p in 0..16 {
         if (p as u64) < g[1] {
             say_person(page, p as u64, g[HOLDS + p]);
         }
-        p += 1;
     }
 }
 
@@ -58,12 +54,10 @@ fn say_action(page: &mut Page, a: u64, roles: u64) {
 }
 
 pub fn say_actions(page: &mut Page, g: &Job) {
-    let mut a = 0;
-    while a < 64 {
+    for a in 0..64 {
         if (a as u64) < g[3] {
             say_action(page, a as u64, g[ALLOWS + a]);
         }
-        a += 1;
     }
 }
 
@@ -103,12 +97,10 @@ fn say_step(page: &mut Page, g: &Job, s: u8, m: Marking) {
 }
 
 pub fn say_steps(page: &mut Page, g: &Job, m: Marking) {
-    let mut s = 0u8;
-    while s < 64 {
+    for s in 0..64u8 {
         if (s as u64) < g[0] {
             say_step(page, g, s, m);
         }
-        s += 1;
     }
 }
 
@@ -158,20 +150,16 @@ fn say_arrow(page: &mut Page, kind: u8, a: u64, b: u64) {
 
 // The arrows of a kind from a to the steps of x.
 fn say_row(page: &mut Page, kind: u8, a: u64, x: u64) {
-    let mut b = 0;
-    while b < 64 {
+    for b in 0..64 {
         if sets::has(x, b) {
             say_arrow(page, kind, a, b as u64);
         }
-        b += 1;
     }
 }
 
 fn say_kind(page: &mut Page, kind: u8, rows: &[u64]) {
-    let mut a = 0;
-    while a < rows.len() {
+    for a in 0..rows.len() {
         say_row(page, kind, a as u64, rows[a]);
-        a += 1;
     }
 }
 

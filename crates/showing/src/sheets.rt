@@ -29,7 +29,7 @@ pub fn show(page: &mut Page, g: &Job, m: Marking) -> Answer {
 
 // The sheet to its file.
 pub fn keep(page: &mut Page, sheet: &[u8], t: Target) -> Answer {
-    if !store_to(t, sheet) {
+    if !store_to(&page.rt(), t, sheet) {
         return Answer::Failed;
     }
     say_wrote(page, sheet.len() as u64);
@@ -38,7 +38,7 @@ pub fn keep(page: &mut Page, sheet: &[u8], t: Target) -> Answer {
 
 // The sheet of what was read; `at` names it.
 pub fn write(page: &mut Page, g: &Job, m: Marking, t: Target, at: usize) -> Answer {
-    let mut room = io::large_buffer();
+    let mut room = [0u8; 65536];
     let w = sheet::write(g, m, &mut room);
     match w {
         Written::Length(n) => keep(page, front(&room, n), t),

@@ -1,24 +1,25 @@
 // The files of the sample job.
 use crate::job::{CHECK, DAY, PUBLISH, REBOOT, START};
-use files::complaints::complain_error;
+use files::complaints::{complain_error, complain_reason};
+use files::known::ended;
 use files::writing::{front, store};
 use lines::refusals::say_refused;
 use lines::say::{say, say_number};
 use output::page::Page;
 use rules::Job;
 use sheet::Written;
+use std::fs;
+use std::io::ErrorKind;
 
 // The text behind what the room holds already, as far as it fits; the place after it.
 fn add(text: &[u8], room: &mut [u8], at: usize) -> usize {
     let mut to = at;
-    let mut i = 0;
-    while i < text.len() {
+    for b in text {
         if room.len() <= to {
             return to;
         }
-        room[to] = text[i];
+        room[to] = *b;
         to += 1;
-        i += 1;
     }
     to
 }
@@ -29,7 +30,7 @@ fn store_part(page: &mut Page, folder: &[u8], name: &[u8], force: bool, bytes: &
     let a = add(folder, &mut path, 0);
     let b = add(b"/", &mut path, a);
     let c = add(name, &mut path, b);
-    if !store(front(&path, c), force, bytes) {
+    if !store(&page.rt(), front(&path, c), force, bytes) {
         return false;
     }
     say(page, b"wrote: ");
@@ -75,20 +76,27 @@ fn store_journals(page: &mut Page, folder: &[u8], force: bool) -> bool {
 }
 
 // Is the folder there, or could it be made?
-fn has_folder(folder: &[u8]) -> bool {
-    if os::mkdir(folder) == 0 {
-        return true;
+fn has_folder(rt: &HostRuntime, folder: &[u8]) -> bool {
+    let path = match ended(folder) {
+        Ok(path) => path,
+        Err(error) => {
+            complain_reason(rt, folder, error);
+            return false;
+        }
+    };
+    match fs::create_dir(rt, path) {
+        Ok(()) => true,
+        Err(e) if e.kind() == ErrorKind::AlreadyExists => true,
+        Err(e) => {
+            complain_error(rt, folder, &e);
+            false
+        }
     }
-    if os::errno() == libc::EEXIST {
-        return true;
-    }
-    complain_error(folder);
-    false
 }
 
 // Are all the files there? Else it was complained of.
 pub fn store_parts(page: &mut Page, g: &Job, folder: &[u8], force: bool) -> bool {
-    if !has_folder(folder) {
+    if !has_folder(&page.rt(), folder) {
         return false;
     }
     if !store_sheet(page, g, folder, force) {
