@@ -29,19 +29,25 @@ pub fn shown(name: &[u8]) -> Vec<u8> {
     name.iter().map(|byte| if byte.is_ascii_control() { b'?' } else { *byte }).collect()
 }
 
+/// A name that is text: no other is taken for a file's.
+fn text(name: &OsStr) -> io::Result<&OsStr> {
+    const ILLEGAL_SEQUENCE: i32 = 84;
+    name.to_str().map(|_| name).ok_or_else(|| io::Error::from_raw_os_error(ILLEGAL_SEQUENCE))
+}
+
 /// The whole of a file, or of standard input for `-`, up to the most that is looked at.
 pub fn read(name: &OsStr) -> Result<Input, Vec<u8>> {
     let mut bytes = Vec::new();
     let read = match name.as_bytes() {
         b"-" => stdin().take(MOST).read_to_end(&mut bytes),
-        _ => File::open(name).and_then(|file| file.take(MOST).read_to_end(&mut bytes)),
+        _ => text(name).and_then(File::open).and_then(|file| file.take(MOST).read_to_end(&mut bytes)),
     };
     read.map(|_| Input { name: name.as_bytes().into(), bytes }).map_err(|why| reason(name, &why))
 }
 
 /// The same of a file that is to be added to: one that is not there is empty.
 pub fn read_if_there(name: &OsStr) -> Result<Input, Vec<u8>> {
-    match fs::metadata(name) {
+    match text(name).and_then(fs::metadata) {
         Ok(there) if !there.is_file() => Err([name.as_bytes(), b": is there and is no ordinary file"].concat()),
         Err(why) if why.kind() == ErrorKind::NotFound => Ok(Input { name: name.as_bytes().into(), bytes: Vec::new() }),
         _ => read(name),
@@ -57,7 +63,7 @@ pub fn append(name: &OsStr, bytes: &[u8]) -> Result<(), Vec<u8>> {
 
 /// A write that fails is taken back.
 fn added(name: &OsStr, bytes: &[u8]) -> io::Result<()> {
-    let mut file = OpenOptions::new().append(true).create(true).open(name)?;
+    let mut file = OpenOptions::new().append(true).create(true).open(text(name)?)?;
     let before = file.metadata()?.len();
     if let Err(why) = file.write_all(bytes) {
         file.set_len(before)?;
@@ -83,7 +89,7 @@ pub fn write(name: &OsStr, bytes: &[u8], force: bool) -> Result<(), Vec<u8>> {
     } else {
         how.create_new(true);
     }
-    how.open(name).and_then(|mut file| file.write_all(bytes)).map_err(|why| match why.kind() {
+    text(name).and_then(|name| how.open(name)).and_then(|mut file| file.write_all(bytes)).map_err(|why| match why.kind() {
         ErrorKind::AlreadyExists => [name.as_bytes(), b": exists already; --force writes over it"].concat(),
         _ => reason(name, &why),
     })
