@@ -6,6 +6,7 @@ ghost use Rattle.std.specs.Io.{ReadsAtMost};
 use crate::arguments::{PATH_MAX, argument};
 use crate::complaints::{complain_error, complain_reason};
 use crate::known::ended;
+use crate::reasons::EINTR;
 use std::fs::File;
 use std::io;
 use std::io::{Error, ErrorKind, Read};
@@ -30,7 +31,7 @@ fn read_some(from: &mut impl Read, part: &mut [u8]) -> io::Result<usize>
             read => return read,
         }
     }
-    Err(Error::from(ErrorKind::Interrupted))
+    Err(Error::from_raw_os_error(EINTR))
 }
 
 // Reads until the room is full or the input ends.

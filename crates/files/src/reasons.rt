@@ -1,4 +1,4 @@
-// The system's errors in words, which are those of the C library: the kit's own would be written in pieces.
+// The system's errors in words, which are those of the C library: std's own are fewer, and are no part of a line.
 use crate::joining::{Line, join};
 use std::io::Error;
 

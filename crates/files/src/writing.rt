@@ -155,21 +155,24 @@ pub fn sync_name(rt: &HostRuntime, name: &[u8]) {
 }
 
 // How many names are tried for a temporary file.
-const TRIES: usize = 1000;
+const TRIES: u16 = 1000;
 
 const LETTERS: [u8; 62] = *b"abcdefghijklmnopqrstuvwxyzABCDEFGHIJKLMNOPQRSTUVWXYZ0123456789";
 
-// Puts six letters that nobody foresees in place of the last six.
-fn draw(rt: &HostRuntime, name: &mut [u8]) -> i32 {
-    let mut drawn = [0u8; 6];
-    let error = error_of(rt.fill_bytes(&mut drawn));
-    if error != 0 {
-        return error;
+// Six bytes that nobody foresees; where the system has none, others on each turn.
+fn drawn(rt: &HostRuntime, turn: u16) -> [u8; 6] {
+    let mut bytes = [0u8; 6];
+    if rt.fill_bytes(&mut bytes).is_err() {
+        bytes = [0, 0, 0, 0, (turn / 62 % 62) as u8, (turn % 62) as u8];
     }
-    for (b, d) in name.iter_mut().rev().zip(&drawn) {
+    bytes
+}
+
+// Puts six letters in place of the last six.
+fn draw(rt: &HostRuntime, name: &mut [u8], turn: u16) {
+    for (b, d) in name.iter_mut().rev().zip(&drawn(rt, turn)) {
         *b = LETTERS[(*d % 62) as usize];
     }
-    0
 }
 
 // A file that is its owner's alone.
@@ -186,11 +189,8 @@ fn create_private(rt: &HostRuntime, name: &[u8]) -> Result<File, i32> {
 
 // A file of a name that no other has. The name ends in XXXXXX, in whose place its letters are put.
 fn create_temp(rt: &HostRuntime, name: &mut [u8]) -> Result<File, i32> {
-    for _ in 0..TRIES {
-        let error = draw(rt, name);
-        if error != 0 {
-            return Err(error);
-        }
+    for turn in 0..TRIES {
+        draw(rt, name, turn);
         match create_private(rt, name) {
             Err(EEXIST) => {}
             made => return made,

@@ -24,9 +24,9 @@ fn for_c(status: u8) -> i32
     ELSE
 }
 
-// The journal that a call of `take` names, or 0.
+// The journal that a call of `take` names, or 0; of a call that is wrong in its words nobody knows what it names.
 fn journal_to_take(rt: &HostRuntime, call: Call) -> usize {
-    if call.count < 3 {
+    if (call.count < 3) | (call.long != 0) | (call.option != 0) {
         return 0;
     }
     let at = call.at;
