@@ -7,13 +7,14 @@ use native.Mathlib.Omega.{arith}
 use Rattle.sets.specs.Sets.{has, empty}
 use Rattle.moves.specs.declared.Marking.{Marking}
 use Rattle.moves.specs.declared.Refusal.TheVariants.{Unknown, NotHeld, NotOnStep, Excluded, Waits}
-use Rattle.moves.specs.declared.Verdict.{Verdict}
+use Rattle.moves.specs.First.{Verdict}
 use Rattle.moves.specs.First.{Line, first, number_of, number_of_verdict}
 use Rattle.moves.specs.Given.{first_clear, first_refused}
 use Rattle.moves.specs.Move.{entry_of, waits_for, number_of_asked}
 use Rattle.rules.specs.Graph.{Graph, graph_lines, action_of, roles_of, roles_of_action, roles_held, conditions_of}
 use Rattle.rules.specs.Answers.{the_asked, marking_lines}
 use Rattle.rules.specs.Asking.{asked_lines}
+use Rattle.std.specs.Prelude.{Ok, Err}
 
 module _ (g : Graph) (a b : ℕ) (same : action_of g a ≡ action_of g b) where
   -- the two have the same roles
@@ -48,8 +49,8 @@ module _ (g : Graph) (a b : ℕ) (same : action_of g a ≡ action_of g b) where
   shared c d e k none q = go (first c) refl
     where
       go : (v : Verdict) → first c ≡ v → number_of_verdict (first (c ++ e)) ≡ k
-      go Verdict.Clear p = absurd (none (ap number_of_verdict (sym (first_clear c d p)) ∙ q))
-      go (Verdict.Refused x) p = ap number_of_verdict (first_refused c e x p ∙ sym (first_refused c d x p)) ∙ q
+      go (Ok _) p = absurd (none (ap number_of_verdict (sym (first_clear c d p)) ∙ q))
+      go (Err x) p = ap number_of_verdict (first_refused c e x p ∙ sym (first_refused c d x p)) ∙ q
 
   module _ (here : a < g.steps) (there : b < g.steps) (m : Marking) (p r : ℕ) where
     before_same : before m p r a ≡ before m p r b

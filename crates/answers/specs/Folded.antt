@@ -1,11 +1,12 @@
 -- Records in lent memory, as 65 bytes or as nine words: never, then the eight sets.
 use Rattle.std.specs.Prelude.{ℕ, List, ◌∷◌, true, ◌&&◌, cond, length, get_or, eqb, leb}
-use Rattle.moves.specs.declared.Verdict.{Verdict}
+use Rattle.moves.specs.First.{Verdict}
 use Rattle.moves.specs.First.{first}
 use Rattle.records.specs.declared.Record.{Record}
-use Rattle.records.specs.declared.Recorded.{Recorded}
+use Rattle.records.specs.Answers.{Recorded}
 use Rattle.records.specs.Records.{sets_of}
 use Rattle.spelling.specs.Bytes.{flag, record_at, record_bytes, to_bytes_lines}
+use Rattle.std.specs.Prelude.{Ok, Err}
 
 -- what stands in for bytes or words that spell no record: never is on beside a set, so that it is well-formed for no n
 abbrev pub spoilt : Record
@@ -41,9 +42,9 @@ spell_verdict n words room = first (to_bytes_lines n (record_of words) room)
 
 -- the record, or the memory as it was
 unfoldable pub bytes_out : Recorded → List ℕ → List ℕ
-bytes_out (Recorded.Made r) before = record_bytes r
-bytes_out (Recorded.Refused q) before = before
+bytes_out (Ok r) before = record_bytes r
+bytes_out (Err q) before = before
 
 unfoldable pub words_out : Recorded → List ℕ → List ℕ
-words_out (Recorded.Made r) before = record_words r
-words_out (Recorded.Refused q) before = before
+words_out (Ok r) before = record_words r
+words_out (Err q) before = before

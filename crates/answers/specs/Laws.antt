@@ -3,11 +3,12 @@ use Rattle.std.specs.Prelude.{ℕ, ◌≡◌, refl, List, Bool, true, false, con
 use mir.Val.{bool_byte}
 use Rattle.sets.specs.Truth.{and_false}
 use Rattle.moves.specs.declared.Marking.{Marking}
-use Rattle.moves.specs.declared.Verdict.{Verdict}
+use Rattle.moves.specs.First.{Verdict}
 use Rattle.sheet.specs.Sheet.{if_clear}
 use Rattle.records.specs.Records.{each, well_formed}
 use Rattle.answers.specs.Lent.{marking_words}
 use Rattle.answers.specs.Folded.{spoilt}
+use Rattle.std.specs.Prelude.{Ok, Err}
 
 -- what stands in for no record is refused with 10 for every n
 pub spoilt_ill : (n : ℕ) → well_formed n spoilt ≡ false
@@ -23,5 +24,5 @@ as_flag false = refl
 pub clear_twice : (v : Verdict) (m z : Marking) (before : List ℕ)
     → if_clear v (marking_words (if_clear v m z)) before ≡ if_clear v (marking_words m) before
 unfolding if_clear
-clear_twice Verdict.Clear m z before = refl
-clear_twice (Verdict.Refused r) m z before = refl
+clear_twice (Ok _) m z before = refl
+clear_twice (Err r) m z before = refl

@@ -6,12 +6,13 @@ use Rattle.sets.specs.Sets.{has, single, empty, lowest, those}
 use Rattle.rules.specs.Graph.{Graph}
 use Rattle.moves.specs.declared.Marking.{Marking}
 use Rattle.moves.specs.declared.Entry.{Entry}
-use Rattle.moves.specs.declared.Move.{Move}
+use Rattle.moves.specs.Move.{Move}
 use Rattle.rules.specs.Answers.{the_move}
 use Rattle.rules.specs.Signs.{◌∩◌, ◌∖◌, ◌∪◌, Ex, Re, In}
 use Rattle.moves.specs.Inside.{Inside}
 use Rattle.moves.specs.Move.{rank_of}
 use Rattle.tracker.specs.declared.Track.{Track}
+use Rattle.std.specs.Prelude.{Ok}
 
 -- ---- the paper's signs
 
@@ -89,6 +90,6 @@ pub record Transition (g : Graph) (entry : Entry) (from to : Track) : Type 0 whe
   -- M' = (Ex', Re', In') and M'' = (Ex' ∪ {e}, Re'', In'')
   pub i : Ex to.marking ≡ (Ex from.marking ∪ single entry.step.0)
   -- M' —(e, (p, a, r))→ M''
-  pub ii : the_move g from.marking entry ≡ Move.Moved to.marking
+  pub ii : the_move g from.marking entry ≡ Ok to.marking
   pub iii : to.flag ≡ j' g.steps from.marking to.marking from.rank.0 entry.step.0
   pub iv_v_vi : to.rank.0 ≡ i' g.steps from.marking to.marking from.rank.0 entry.step.0

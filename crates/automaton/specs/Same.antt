@@ -14,19 +14,20 @@ use Rattle.sets.specs.Laws.{ext, has_minus, has_union, has_single, has_above, me
 use Rattle.rules.specs.Graph.{Graph, graph_verdict}
 use Rattle.moves.specs.declared.Marking.{Marking}
 use Rattle.moves.specs.declared.Entry.{Entry}
-use Rattle.moves.specs.declared.Verdict.{Verdict}
+use Rattle.moves.specs.First.{Verdict}
 use Rattle.moves.specs.First.{first}
 use Rattle.moves.specs.Move.{is_finished, rank_of}
 use Rattle.rules.specs.Laws.{clear_counts}
 use Rattle.moves.specs.Inside.{Inside, inside_fits}
 use Rattle.rules.specs.Entries.{moved_after}
 use Rattle.tracker.specs.declared.Track.{Track}
-use Rattle.tracker.specs.declared.Tracked.{Tracked}
+use Rattle.tracker.specs.Tracked.{Tracked}
 use Rattle.tracker.specs.Tracker.{is_rank, begin, rest, pending, above, pool, meets, served, track_after}
 use Rattle.tracker.specs.Tracker.{start_lines, the_start, the_idle, the_step}
 use Rattle.automaton.specs.Paper.{State, Initial, Tau, Transition, min, ◌∈?◌, rank_of_min, j', i'}
 use Rattle.tracker.specs.Laws.{above_members, sound_inside, start_clear, idle_clear, idle_at, Stepped, step_at_lem, at_step, rank_is}
 use Rattle.automaton.specs.States.{start_is}
+use Rattle.std.specs.Prelude.{Ok}
 
 -- ---- H is Mᵣ
 
@@ -174,21 +175,21 @@ finished_same : (m : Marking) → is_finished m ≡ empty (meet m.included m.due
 finished_same m = ap empty (and_comm m.due m.included)
 
 -- where a graph and a marking of it are as they should be
-sound_of : (g : Graph) (m : Marking) → graph_verdict g ≡ Verdict.Clear → Inside g.steps m → first (start_lines g m) ≡ Verdict.Clear
+sound_of : (g : Graph) (m : Marking) → graph_verdict g ≡ Ok tt → Inside g.steps m → first (start_lines g m) ≡ Ok tt
 sound_of g m clear within = sound_inside g m clear (inside_fits g.steps m within)
 
 ranked_of : (n : ℕ) (t : Track) → State n t → is_rank n t.rank.0 ≡ true
 ranked_of n t s = and_intro (le-leb 1 t.rank.0 s.rank_some) (le-leb t.rank.0 n s.rank_most)
 
 -- the start, of each graph and each marking of it
-pub same_start : (g : Graph) (m : Marking) (s : Track) → graph_verdict g ≡ Verdict.Clear → Inside g.steps m
-    → (the_start g m ≡ Tracked.At s) ↔ Initial m s
+pub same_start : (g : Graph) (m : Marking) (s : Track) → graph_verdict g ≡ Ok tt → Inside g.steps m
+    → (the_start g m ≡ Ok s) ↔ Initial m s
 same_start g m s clear within = (to, from)
   where
-    to : the_start g m ≡ Tracked.At s → Initial m s
+    to : the_start g m ≡ Ok s → Initial m s
     to e = let is = start_is g m s e in record { marking_is = is.0; rank_is = is.1; flag_is = is.2 ∙ finished_same m }
 
-    from : Initial m s → the_start g m ≡ Tracked.At s
+    from : Initial m s → the_start g m ≡ Ok s
     from r =
         let same : begin m ≡ s = λ k.
         record {
@@ -197,13 +198,13 @@ same_start g m s clear within = (to, from)
           flag =
               (finished_same m ∙ sym r.flag_is) k;
         } in
-        start_clear g m (sound_of g m clear within) ∙ ap Tracked.At same
+        start_clear g m (sound_of g m clear within) ∙ ap Ok same
 
 -- the idle move, from each state
-pub same_idle : (g : Graph) (t u : Track) → graph_verdict g ≡ Verdict.Clear → State g.steps t → (the_idle g t ≡ Tracked.At u) ↔ Tau t u
+pub same_idle : (g : Graph) (t u : Track) → graph_verdict g ≡ Ok tt → State g.steps t → (the_idle g t ≡ Ok u) ↔ Tau t u
 same_idle g t u clear state = (to, from)
   where
-    to : the_idle g t ≡ Tracked.At u → Tau t u
+    to : the_idle g t ≡ Ok u → Tau t u
     to e =
         let same : rest t ≡ u = (idle_at g t u e).result in
         record {
@@ -212,7 +213,7 @@ same_idle g t u clear state = (to, from)
           a = ap (λ (v : Track). v.flag) (sym same) ∙ finished_same t.marking;
         }
 
-    from : Tau t u → the_idle g t ≡ Tracked.At u
+    from : Tau t u → the_idle g t ≡ Ok u
     from r =
         let same : rest t ≡ u =
         λ k. record {
@@ -221,11 +222,11 @@ same_idle g t u clear state = (to, from)
           flag =
               (finished_same t.marking ∙ sym r.a) k;
         } in
-        idle_clear g t (sound_of g t.marking clear state.marking_in_lem) (ranked_of g.steps t state) ∙ ap Tracked.At same
+        idle_clear g t (sound_of g t.marking clear state.marking_in_lem) (ranked_of g.steps t state) ∙ ap Ok same
 
 -- each step, from each state
-pub same_step : (g : Graph) (t : Track) (e : Entry) (u : Track) → graph_verdict g ≡ Verdict.Clear → State g.steps t
-    → (the_step g t e ≡ Tracked.At u) ↔ Transition g e t u
+pub same_step : (g : Graph) (t : Track) (e : Entry) (u : Track) → graph_verdict g ≡ Ok tt → State g.steps t
+    → (the_step g t e ≡ Ok u) ↔ Transition g e t u
 unfolding track_after
 same_step g t e u clear state = (to, from)
   where
@@ -238,7 +239,7 @@ same_step g t e u clear state = (to, from)
     small : pending t.marking < 2 ^ n
     small = meet_lt n t.marking.due t.marking.included state.marking_in_lem.due_in
 
-    to : the_step g t e ≡ Tracked.At u → Transition g e t u
+    to : the_step g t e ≡ Ok u → Transition g e t u
     to q =
         let s : Stepped g t e u = step_at_lem g t e u q in
         record {
@@ -248,7 +249,7 @@ same_step g t e u clear state = (to, from)
           iv_v_vi = ap (λ (v : Track). v.rank.0) (sym s.result) ∙ rank_same n t u.marking e.step.0 most small;
         }
 
-    from : Transition g e t u → the_step g t e ≡ Tracked.At u
+    from : Transition g e t u → the_step g t e ≡ Ok u
     from r =
         at_step g t e u
         (record {

@@ -9,7 +9,7 @@ use Rattle.sets.specs.Laws.{meet_lt, minus_lt, lowest_wider, lowest_below}
 use Rattle.rules.specs.Graph.{Graph}
 use Rattle.moves.specs.declared.Marking.{Marking}
 use Rattle.moves.specs.declared.Entry.{Entry}
-use Rattle.moves.specs.declared.Verdict.{Verdict}
+use Rattle.moves.specs.First.{Verdict}
 use Rattle.moves.specs.First.{first, number_of_verdict, number_of}
 use Rattle.moves.specs.Move.{is_finished}
 use Rattle.rules.specs.Answers.{entry_known, entry_lines}
@@ -18,23 +18,25 @@ use Rattle.moves.specs.Inside.{Inside, fits_inside}
 use Rattle.rules.specs.Sound.{Sound, clear_sound, after_inside}
 use Rattle.rules.specs.Entries.{moved_clear, moved_after}
 use Rattle.tracker.specs.declared.Track.{Track}
-use Rattle.tracker.specs.declared.Tracked.{Tracked}
+use Rattle.tracker.specs.Tracked.{Tracked}
 use Rattle.tracker.specs.Tracker.{pending, above, pool, meets, served, begin, rest, start_lines, idle_lines, step_lines}
 use Rattle.tracker.specs.Tracker.{tracked_of, the_start, the_idle, the_step, number_of_tracked}
 use Rattle.automaton.specs.Paper.{State}
 use Rattle.tracker.specs.Laws.{clear_graph, clear_fits, rank_some, rank_most, rank_is, start_at, Idled, idle_at, Stepped, step_at_lem}
+use Rattle.std.specs.Prelude.{Ok, Err}
+use Rattle.tracker.specs.declared.Unmoved.{Unmoved}
 
 -- ---- start and idle move
 
 -- the first state has rank 1, and its flag says whether the job is finished
-pub start_is : (g : Graph) (m : Marking) (u : Track) → the_start g m ≡ Tracked.At u → (u.marking ≡ m) × (u.rank.0 ≡ 1)
+pub start_is : (g : Graph) (m : Marking) (u : Track) → the_start g m ≡ Ok u → (u.marking ≡ m) × (u.rank.0 ≡ 1)
     × (u.flag ≡ is_finished m)
 start_is g m u e =
     let same : begin m ≡ u = (start_at g m u e).1 in
     (ap (λ (t : Track). t.marking) (sym same), ap (λ (t : Track). t.rank.0) (sym same), ap (λ (t : Track). t.flag) (sym same))
 
 -- an idle move keeps marking and rank, and the flag after it is the finished test
-pub idle_is : (g : Graph) (t u : Track) → the_idle g t ≡ Tracked.At u → (u.marking ≡ t.marking) × (u.rank ≡ t.rank)
+pub idle_is : (g : Graph) (t u : Track) → the_idle g t ≡ Ok u → (u.marking ≡ t.marking) × (u.rank ≡ t.rank)
     × (u.flag ≡ is_finished u.marking)
 idle_is g t u e =
     let same : rest t ≡ u = (idle_at g t u e).result in (
@@ -46,7 +48,7 @@ idle_is g t u e =
 
 -- ---- a state stays a state: the marking within the graph, the rank within 1..n
 
-pub start_state : (g : Graph) (m : Marking) (u : Track) → the_start g m ≡ Tracked.At u → State g.steps u
+pub start_state : (g : Graph) (m : Marking) (u : Track) → the_start g m ≡ Ok u → State g.steps u
 start_state g m u e =
     let at = start_at g m u e in
     let sound : Sound g = clear_sound g (clear_graph g m at.0) in
@@ -58,7 +60,7 @@ start_state g m u e =
           sound.counted.steps_some;
     })
 
-pub idle_state : (g : Graph) (t u : Track) → the_idle g t ≡ Tracked.At u → State g.steps u
+pub idle_state : (g : Graph) (t u : Track) → the_idle g t ≡ Ok u → State g.steps u
 idle_state g t u e =
     let i : Idled g t u = idle_at g t u e in
     subst (State g.steps) i.result
@@ -91,13 +93,13 @@ rank_after n i p q e most small some below = go (served i p q e) refl
         (omega arith, omega arith)
     go false s = (some, below)
 
-pub step_state : (g : Graph) (t : Track) (e : Entry) (u : Track) → the_step g t e ≡ Tracked.At u → State g.steps u
+pub step_state : (g : Graph) (t : Track) (e : Entry) (u : Track) → the_step g t e ≡ Ok u → State g.steps u
 step_state g t e u q =
     let s : Stepped g t e u = step_at_lem g t e u q in
     let m = t.marking in
     let n = g.steps in
-    let clear : first (start_lines g m ++ entry_lines g m e) ≡ Verdict.Clear = moved_clear g m u.marking e s.moved in
-    let front : first (start_lines g m) ≡ Verdict.Clear = clear_front (start_lines g m) (entry_lines g m e) clear in
+    let clear : first (start_lines g m ++ entry_lines g m e) ≡ (Ok tt) = moved_clear g m u.marking e s.moved in
+    let front : first (start_lines g m) ≡ (Ok tt) = clear_front (start_lines g m) (entry_lines g m e) clear in
     let sound : Sound g = clear_sound g (clear_graph g m front) in
     let within : Inside n m = fits_inside n m (clear_fits g m front) in
     let is : entry_known g e ≡ true = not-false (entry_known g e) (clear_head _ _ (clear_back (start_lines g m) (entry_lines g m e) clear)) in
@@ -135,10 +137,10 @@ step_ascends g t e = refl
 -- and the number of the answer is the table's
 tracked_number : (v : Verdict) (before next : Track) → number_of_tracked (tracked_of v before next) ≡ number_of_verdict v
 unfolding number_of_tracked tracked_of number_of_verdict
-tracked_number Verdict.Clear before next = refl
-tracked_number (Verdict.Refused r) before next = either (leb 11 (number_of r))
+tracked_number (Ok _) before next = refl
+tracked_number (Err r) before next = either (leb 11 (number_of r))
   where
-    either : (b : Bool) → number_of_tracked (cond b (Tracked.Stays before r) (Tracked.Refused r)) ≡ number_of r
+    either : (b : Bool) → number_of_tracked (cond b (Err (Unmoved.Stays before r)) (Err (Unmoved.Refused r))) ≡ number_of r
     either true = refl
     either false = refl
 

@@ -2,12 +2,12 @@
 use Rattle.std.specs.Prelude.{ℕ, ◌+◌, List, [], ◌∷◌, ◌++◌, Bool, not, ◌&&◌, cond, length, drop, eqb, ltb, leb}
 use Rattle.sets.specs.Sets.{single, union, span}
 use Rattle.moves.specs.declared.Marking.{Marking}
-use Rattle.moves.specs.declared.Verdict.{Verdict}
+use Rattle.moves.specs.First.{Verdict}
 use Rattle.moves.specs.declared.Refusal.TheVariants.{Arms, Room}
 use Rattle.moves.specs.First.{Line, first}
 use Rattle.rules.specs.Graph.{Graph}
 use Rattle.bodies.specs.Tables.{tabled}
-use Rattle.sheet.specs.declared.Written.{Written}
+use Rattle.sheet.specs.Sheet.{Written}
 use Rattle.sheet.specs.Sheet.{sheet_bytes, if_clear, written_of}
 
 -- ---- the steps: 0 is the reboot, 1 to b check an arm each, and the last publishes

@@ -14,7 +14,7 @@ use Rattle.sets.specs.Laws.{has_union, has_meet, has_single, has_zero, members_e
 use Rattle.sets.specs.Spans.{single_apart, span_below, span_lt, span_last}
 use Rattle.moves.specs.declared.Refusal.TheVariants.{Arms, Room}
 use Rattle.moves.specs.declared.Marking.{Marking}
-use Rattle.moves.specs.declared.Verdict.{Verdict}
+use Rattle.moves.specs.First.{Verdict}
 use Rattle.moves.specs.First.{first}
 use Rattle.moves.specs.Given.{first_clear}
 use Rattle.moves.specs.Move.{marking_fits}
@@ -23,11 +23,12 @@ use Rattle.rules.specs.Graph.{Graph, graph_verdict, sets_fit}
 use Rattle.bodies.specs.Tables.{tabled, row_tabled, keeps_tabled, labels_tabled}
 use Rattle.writing.specs.Writing.{content_lines}
 use Rattle.writing.specs.Laws.{content_graph}
-use Rattle.sheet.specs.declared.Written.{Written}
+use Rattle.sheet.specs.Sheet.{Written}
 use Rattle.sheet.specs.Sheet.{write_verdict, written_of, the_written, room_after, if_clear}
 use Rattle.sheet.specs.Laws.{if_refused}
 use Rattle.cabinet.specs.Cabinet.{publish, checks, by_step, following, includes_at, excludes_at, label_at, allows_at, holds_at}
 use Rattle.cabinet.specs.Cabinet.{climber, desk, cabinet, at_first, cabinet_bytes, arms_fit, cabinet_verdict, the_cabinet, cabinet_after}
+use Rattle.std.specs.Prelude.{Ok, Err}
 
 above : (a b : ℕ) → a < b → eqb b a ≡ false
 above a b h = ne_eqb b a (λ e. let w : ⊥ = omega arith in w)
@@ -178,7 +179,7 @@ module _ (b : ℕ) (few : b ≤ 16) where
       (λ s l. single_lt (b + 2) s (omega arith)) zero)))
 
 -- nothing is against the job
-pub cabinet_clear : (b : ℕ) → 1 ≤ b → b ≤ 16 → graph_verdict (cabinet b) ≡ Verdict.Clear
+pub cabinet_clear : (b : ℕ) → 1 ≤ b → b ≤ 16 → graph_verdict (cabinet b) ≡ Ok tt
 unfolding first
 cabinet_clear b some few = simp (counts_kept b few, sets_kept b few, apart_kept b few some)
 
@@ -204,10 +205,10 @@ module _ (b : ℕ) (old : List ℕ) where
     pub answer : w ≡ the_cabinet b (length old)
     pub room : new ≡ cabinet_after b old
 
-  pub wrong_arms : arms_fit b ≡ false → Wrote old (Written.Refused Arms)
+  pub wrong_arms : arms_fit b ≡ false → Wrote old (Err Arms)
   unfolding cabinet_verdict first written_of
   wrong_arms e =
-      let v : cabinet_verdict b (length old) ≡ Verdict.Refused Arms = simp e in
+      let v : cabinet_verdict b (length old) ≡ Err Arms = simp e in
       record {
         answer = sym (ap (λ (w : Verdict). written_of w (length (cabinet_bytes b))) v);
         room = sym (if_refused (cabinet_verdict b (length old)) Arms (cabinet_bytes b ++ drop (length (cabinet_bytes b)) old) old v);

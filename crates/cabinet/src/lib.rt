@@ -12,13 +12,13 @@ use sheet::Written;
 pub mod inner;
 
 // Writes the sheet for so many arms. Refusals 30, then 18; on a refusal the room stays as it is.
-pub fn write(arms: u64, room: &mut [u8]) -> Written
+pub fn write(arms: u64, room: &mut [u8]) -> Result<usize, Refusal>
     ensures value { result ≡ the_cabinet arms (length room.old) }
     ensures room_after { room.new ≡ cabinet_after arms room.old }
 {
     let told = arms_fit(arms);
     if !told {
-        return Written::Refused(Refusal::Arms);
+        return Err(Refusal::Arms);
     }
     let mut g = [0u64; WORDS];
     fill(arms, &mut g);

@@ -9,7 +9,7 @@ use Rattle.std.proofs.Math.Decide.{dec_lt}
 use Rattle.sets.specs.Sets.{has}
 use Rattle.moves.specs.declared.Marking.{Marking}
 use Rattle.moves.specs.declared.Entry.{Entry}
-use Rattle.moves.specs.declared.Move.{Move}
+use Rattle.moves.specs.Move.{Move}
 use Rattle.moves.specs.Move.{after, is_finished}
 use Rattle.rules.specs.Answers.{the_move, row_of}
 use Rattle.rules.specs.Paper.{Ready, Allowed}
@@ -22,6 +22,7 @@ use Rattle.checked.specs.Words.{steps_taken, checks_in, one_to, Occurs, kept_on,
 use Rattle.checked.specs.Lists.{checks_append, checks_counted, checks_none, counted_occurs, occurs_counted}
 use Rattle.checked.specs.Lists.{replicate_more, parted}
 use Rattle.checked.specs.Standing.{Stands, stands_first, in_which, on_reboot, on_check, on_publish, stands_finished, finished_stands}
+use Rattle.std.specs.Prelude.{Ok}
 
 -- the marking is one after these steps since the last reboot
 pub record Seen (b : ℕ) (m : Marking) (since : List ℕ) : Type 0 where
@@ -66,7 +67,7 @@ module _ (b : ℕ) (arms : arms_fit b ≡ true) where
 
   -- ---- every allowed step keeps it up
 
-  seen_on : (m x : Marking) (since : List ℕ) (e : Entry) → Seen b m since → the_move (cabinet b) m e ≡ Move.Moved x
+  seen_on : (m x : Marking) (since : List ℕ) (e : Entry) → Seen b m since → the_move (cabinet b) m e ≡ Ok x
       → Seen b x (cond (eqb e.step.0 reboot) [] (since ++ (e.step.0 ∷ [])))
   unfolding tabled
   seen_on m x since e seen moved = go (in_which b k m here s taken.1.included) (dec_lt k b)

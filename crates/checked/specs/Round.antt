@@ -14,8 +14,8 @@ use Rattle.numbers.specs.Numbers.{Bytes}
 use Rattle.numbers.specs.Laws.{none_bytes, more_bytes, append_bytes}
 use Rattle.moves.specs.declared.Marking.{Marking}
 use Rattle.moves.specs.declared.Entry.{Entry}
-use Rattle.moves.specs.declared.Asked.{Asked}
-use Rattle.moves.specs.declared.Move.{Move}
+use Rattle.moves.specs.First.{Verdict}
+use Rattle.moves.specs.Move.{Move}
 use Rattle.moves.specs.Move.{entry_of, after, is_finished}
 use Rattle.moves.specs.Inside.{Inside, inside_fits}
 use Rattle.rules.specs.declared.Ending.{Ending}
@@ -23,7 +23,7 @@ use Rattle.rules.specs.Answers.{the_asked, the_move, the_ending, row_of}
 use Rattle.rules.specs.Paper.{Ready, Allowed}
 use Rattle.rules.proofs.Taken.{allowed_asked, allowed_taken}
 use Rattle.tables.specs.Tables.{row}
-use Rattle.journal.specs.declared.Ran.{Ran}
+use Rattle.journal.specs.Ran.{Ran}
 use Rattle.journal.specs.Journal.{entries, length_fits}
 use Rattle.journal.specs.Run.{run_from, the_run}
 use Rattle.journal.specs.Laws.{entries_length, entries_append, run_clear}
@@ -35,6 +35,8 @@ use Rattle.checked.specs.Words.{steps_of, checks_in, one_to, since_reboot, check
 use Rattle.checked.specs.Standing.{Stands, stands_first, on_reboot, on_check, on_publish, stands_finished, finished_stands}
 use Rattle.checked.specs.Checked.{Seen, passes_seen, finished_counted}
 use Rattle.checked.specs.Journals.{clear, inside_first, ending_reached, publish_held}
+use Rattle.std.specs.Prelude.{Ok}
+use Rattle.journal.specs.Ran.{ended}
 
 module _ (b : ℕ) (arms : arms_fit b ≡ true) where
   some : 1 ≤ b
@@ -103,10 +105,10 @@ module _ (b : ℕ) (arms : arms_fit b ≡ true) where
               absurd (true≢false (sym c ∙ ap (λ (x : ℕ). has x a) (row_tabled 64 (λ s. 0) step small) ∙ has_zero a));
         }
 
-    pub may : the_asked (cabinet b) m (entry_of person step role) ≡ Asked.Allowed
+    pub may : the_asked (cabinet b) m (entry_of person step role) ≡ Ok tt
     may = allowed_asked (cabinet b) m (entry_of person step role) ready allowed
 
-    does : the_move (cabinet b) m (entry_of person step role) ≡ Move.Moved (after (row_of (cabinet b) person step) m step)
+    does : the_move (cabinet b) m (entry_of person step role) ≡ Ok (after (row_of (cabinet b) person step) m step)
     does = allowed_taken (cabinet b) m (entry_of person step role) ready allowed
 
     within_after : Inside (b + 2) (after (row_of (cabinet b) person step) m step)
@@ -189,9 +191,9 @@ module _ (b : ℕ) (arms : arms_fit b ≡ true) where
       omega arith
 
   -- A whole round runs through after any journal that does
-  pub round_again : (j : List ℕ) (m : Marking) (n : ℕ) → the_run (cabinet b) (at_first b) j ≡ Ran.Ended m n
-      → (x : Marking) × (the_run (cabinet b) m (whole_round b) ≡ Ran.Ended x (b + 2))
-      × (the_ending (cabinet b) x ≡ Ending.Finished)
+  pub round_again : (j : List ℕ) (m : Marking) (n : ℕ) → the_run (cabinet b) (at_first b) j ≡ Ok (ended m n)
+      → (x : Marking) × (the_run (cabinet b) m (whole_round b) ≡ Ok (ended x (b + 2)))
+      × (the_ending (cabinet b) x ≡ Ok Ending.Finished)
   round_again j m n ran =
       let passed = (ended_passes (cabinet b) (at_first b) m n j ran).2 in
       let seen : Seen b m (since_reboot (steps_of j)) = passes_seen b arms (entries j) m passed in
@@ -205,15 +207,15 @@ module _ (b : ℕ) (arms : arms_fit b ≡ true) where
         all.last,
         run_clear (cabinet b) m (whole_round b) (clear b arms) fits (inside_fits (b + 2) m i)
             ∙ passes_run (cabinet b) m all.last 0 (entries (whole_round b)) all.passes
-            ∙ ap (Ran.Ended all.last)
+            ∙ ap ((λ x. Ok (ended all.last x)))
             (let z : 0 + length (entries (whole_round b)) ≡ b + 2 = omega arith in z),
         ending_reached b arms all.last all.inside
-            ∙ ap (λ (f : Bool). cond f Ending.Finished Ending.Open) (stands_finished b b all.last all.stands refl),
+            ∙ ap (λ (f : Bool). cond f (Ok Ending.Finished) (Ok Ending.Open)) (stands_finished b b all.last all.stands refl),
       )
 
   -- so does one from the start, and its entries are bytes: it can be lent
-  pub round_runs : (x : Marking) × (the_run (cabinet b) (at_first b) (whole_round b) ≡ Ran.Ended x (b + 2))
-      × (the_ending (cabinet b) x ≡ Ending.Finished)
+  pub round_runs : (x : Marking) × (the_run (cabinet b) (at_first b) (whole_round b) ≡ Ok (ended x (b + 2)))
+      × (the_ending (cabinet b) x ≡ Ok Ending.Finished)
   unfolding run_from entries
   round_runs = round_again [] (at_first b) 0 (run_clear (cabinet b) (at_first b) [] (clear b arms) refl (first_fits b))
 
@@ -237,17 +239,17 @@ module _ (b : ℕ) (arms : arms_fit b ≡ true) where
       (append_bytes (checking_from 0 b) end (checking_bytes b 0 (omega (arith, few))) last)))
 
   -- and at the start nothing is finished
-  pub first_open : the_ending (cabinet b) (at_first b) ≡ Ending.Open
+  pub first_open : the_ending (cabinet b) (at_first b) ≡ Ok Ending.Open
   first_open =
       ending_reached b arms (at_first b) (inside_first b)
-      ∙ ap (λ (f : Bool). cond f Ending.Finished Ending.Open)
+      ∙ ap (λ (f : Bool). cond f (Ok Ending.Finished) (Ok Ending.Open))
       (is_false (is_finished (at_first b))
       (λ f. let z : 0 ≡ b = finished_stands b 0 (at_first b) (stands_first b) f in let w : ⊥ = omega (arith, some) in w))
 
   -- ---- the desk may publish exactly when all checks have occurred since the last reboot, or the start
 
-  pub publish_exactly : (j : List ℕ) (m : Marking) (n : ℕ) → the_run (cabinet b) (at_first b) j ≡ Ran.Ended m n
-      → (the_asked (cabinet b) m (entry_of desk (publish b) desk) ≡ Asked.Allowed) ↔ (checks_in b (since_reboot (steps_of j)) ≡ one_to b)
+  pub publish_exactly : (j : List ℕ) (m : Marking) (n : ℕ) → the_run (cabinet b) (at_first b) j ≡ Ok (ended m n)
+      → (the_asked (cabinet b) m (entry_of desk (publish b) desk) ≡ Ok tt) ↔ (checks_in b (since_reboot (steps_of j)) ≡ one_to b)
   publish_exactly j m n ran =
       let passed = (ended_passes (cabinet b) (at_first b) m n j ran).2 in
       let seen : Seen b m (since_reboot (steps_of j)) = passes_seen b arms (entries j) m passed in

@@ -8,7 +8,7 @@ use Rattle.std.proofs.Math.ListN.{length}
 use Rattle.sets.specs.Sets.{has, single, union, span}
 use Rattle.sets.specs.Laws.{ext, has_union, has_zero}
 use Rattle.sets.specs.Spans.{span_in, span_below, span_above, span_none, span_last}
-use Rattle.moves.specs.declared.Verdict.{Verdict}
+use Rattle.moves.specs.First.{Verdict}
 use Rattle.moves.specs.declared.Refusal.TheVariants.{Arms, Room}
 use Rattle.moves.specs.First.{first}
 use Rattle.moves.specs.Move.{marking_fits}
@@ -23,7 +23,7 @@ use Rattle.bodies.specs.Tables.{tabled, length_tabled, row_tabled}
 use Rattle.writing.specs.Writing.{arrow_table, sheet_bytes}
 use Rattle.writing.specs.Laws.{kind_lies, table_kept, content_graph}
 use Rattle.writing.specs.Parts.{sheet_length}
-use Rattle.sheet.specs.declared.Written.{Written}
+use Rattle.sheet.specs.Sheet.{Written}
 use Rattle.sheet.specs.Sheet.{written_of}
 use Rattle.rounds.specs.Says.{Says}
 use Rattle.rounds.specs.Read.{read_written}
@@ -32,6 +32,7 @@ use Rattle.cabinet.specs.Cabinet.{arms_fit, cabinet_verdict, the_cabinet}
 use Rattle.cabinet.specs.Rows.{count_at, word_at, at_counts, at_conditions, at_responses, at_includes, at_excludes, words_graph}
 use Rattle.cabinet.specs.Laws.{by_reboot, by_check, by_publish, following_most, others_span, arms_low, arms_high, first_fits}
 use Rattle.checked.specs.Journals.{clear}
+use Rattle.std.specs.Prelude.{Ok, Err}
 
 -- ---- how many steps a row names
 
@@ -107,7 +108,7 @@ module _ (b : ℕ) (arms : arms_fit b ≡ true) where
       → length (members (row (kind_rows table kind) a)) ≡ n
   counted kind a n x h l e c = ap (λ (y : ℕ). length (members y)) (lies kind a h l ∙ e) ∙ c
 
-  clear_block : graph_verdict (graph_of block) ≡ Verdict.Clear
+  clear_block : graph_verdict (graph_of block) ≡ Ok tt
   clear_block = ap graph_verdict (words_graph b) ∙ clear b arms
 
   conditions_word : (a : ℕ) → a < 64 → word_at b (4 + 0 * 64 + a) ≡ 0
@@ -214,24 +215,24 @@ module _ (b : ℕ) (arms : arms_fit b ≡ true) where
 
   -- ---- what is answered, in figures
 
-  verdict_room : (room : ℕ) → cabinet_verdict b room ≡ cond (ltb room (72 + 15 * b)) (Verdict.Refused Room) Verdict.Clear
+  verdict_room : (room : ℕ) → cabinet_verdict b room ≡ cond (ltb room (72 + 15 * b)) (Err Room) (Ok tt)
   unfolding cabinet_verdict first
   verdict_room room =
-      ap (λ (t : Bool). cond (not t) (Verdict.Refused Arms) (cond (ltb room (length (cabinet_bytes b))) (Verdict.Refused Room) Verdict.Clear)) arms
-      ∙ ap (λ (size : ℕ). cond (ltb room size) (Verdict.Refused Room) Verdict.Clear) sheet_bytes_lem
+      ap (λ (t : Bool). cond (not t) (Err Arms) (cond (ltb room (length (cabinet_bytes b))) (Err Room) (Ok tt))) arms
+      ∙ ap (λ (size : ℕ). cond (ltb room size) (Err Room) (Ok tt)) sheet_bytes_lem
 
-  pub room_short : (room : ℕ) → room < 72 + 15 * b → the_cabinet b room ≡ Written.Refused Room
+  pub room_short : (room : ℕ) → room < 72 + 15 * b → the_cabinet b room ≡ Err Room
   unfolding written_of
   room_short room h =
       ap (λ (v : Verdict). written_of v (length (cabinet_bytes b)))
-      (verdict_room room ∙ ap (λ (t : Bool). cond t (Verdict.Refused Room) Verdict.Clear) (lt-ltb room (72 + 15 * b) h))
+      (verdict_room room ∙ ap (λ (t : Bool). cond t (Err Room) (Ok tt)) (lt-ltb room (72 + 15 * b) h))
 
-  pub room_enough : (room : ℕ) → 72 + 15 * b ≤ room → the_cabinet b room ≡ Written.Length (72 + 15 * b)
+  pub room_enough : (room : ℕ) → 72 + 15 * b ≤ room → the_cabinet b room ≡ Ok (72 + 15 * b)
   unfolding written_of
   room_enough room h =
       ap (λ (v : Verdict). written_of v (length (cabinet_bytes b)))
-      (verdict_room room ∙ ap (λ (t : Bool). cond t (Verdict.Refused Room) Verdict.Clear) (le-ltb room (72 + 15 * b) h))
-      ∙ ap Written.Length sheet_bytes_lem
+      (verdict_room room ∙ ap (λ (t : Bool). cond t (Err Room) (Ok tt)) (le-ltb room (72 + 15 * b) h))
+      ∙ ap Ok sheet_bytes_lem
 
   -- ---- what the sheet reads as: the job and its first marking
 
@@ -242,6 +243,6 @@ module _ (b : ℕ) (arms : arms_fit b ≡ true) where
       (content_graph (graph_of block) (at_first b) (ap (λ (k : ℕ). marking_fits k (at_first b)) steps_many ∙ first_fits b) ∙ clear_block))
 
 -- 30, whatever the room
-pub arms_wrong : (b room : ℕ) → arms_fit b ≡ false → the_cabinet b room ≡ Written.Refused Arms
+pub arms_wrong : (b room : ℕ) → arms_fit b ≡ false → the_cabinet b room ≡ Err Arms
 unfolding cabinet_verdict first written_of
 arms_wrong b room e = simp e

@@ -12,9 +12,9 @@ use Rattle.sets.specs.Truth.{and_intro}
 use Rattle.numbers.specs.Numbers.{Bytes}
 use Rattle.moves.specs.declared.Marking.{Marking}
 use Rattle.moves.specs.declared.Entry.{Entry}
-use Rattle.moves.specs.declared.Move.{Move}
+use Rattle.moves.specs.Move.{Move}
 use Rattle.moves.specs.declared.Refusal.TheVariants.{Store}
-use Rattle.moves.specs.declared.Verdict.{Verdict}
+use Rattle.moves.specs.First.{Verdict}
 use Rattle.moves.specs.First.{first}
 use Rattle.moves.specs.Move.{is_finished, no_marking, marking_fits}
 use Rattle.moves.specs.Given.{clear_head, clear_tail, clear_front, clear_back}
@@ -24,7 +24,7 @@ use Rattle.rules.specs.Answers.{marking_lines, the_move}
 use Rattle.rules.specs.Asking.{asked_taken, allowed_known}
 use Rattle.rules.specs.Entries.{Named, known_named}
 use Rattle.rules.specs.Laws.{clear_counts}
-use Rattle.journal.specs.declared.Ran.{Ran}
+use Rattle.journal.specs.Ran.{Ran}
 use Rattle.journal.specs.Journal.{entries, length_fits}
 use Rattle.journal.specs.Run.{run_from}
 use Rattle.journal.specs.Laws.{run_clear}
@@ -37,6 +37,9 @@ use Rattle.deadend.specs.Order.{Level, found_length, place_kept, stuck, alive, n
 use Rattle.deadend.specs.Answers.{Roomy, fits_roomy, ends_search}
 use Rattle.endings.specs.Reached.{Within, sound, complete}
 use Rattle.endings.specs.Words.{JournalEnds, FewestEntries, Unfinished, Overflows}
+use Rattle.std.specs.Prelude.{Ok, Result}
+use Rattle.journal.specs.Ran.{ended}
+use Rattle.moves.specs.declared.Refusal.{Refusal}
 
 -- an answer is no other answer
 differ : {A : Type 0} → ◌≡◌ {A = ℕ} 0 1 → A
@@ -45,11 +48,11 @@ differ z = absurd (let w : ⊥ = omega arith in w)
 module _ (g : Graph) (m : Marking) where
   -- ---- what the search comes to
 
-  pub data Outcome (c : ℕ) (a : Ends) : Type 0 where
-    never : (n : ℕ) → a ≡ Ends.None n → length (found g m n) ≡ n → n ≤ c → Unfinished g m n → Outcome c a
-    reach : (n : ℕ) → a ≡ Ends.Reachable (depth g m n) (n + 1) → n < length (found g m n) → length (found g m n) ≤ c → Unfinished g m n
+  pub data Outcome (c : ℕ) (a : (Result Ends Refusal)) : Type 0 where
+    never : (n : ℕ) → a ≡ Ok (Ends.None n) → length (found g m n) ≡ n → n ≤ c → Unfinished g m n → Outcome c a
+    reach : (n : ℕ) → a ≡ Ok (Ends.Reachable (depth g m n) (n + 1)) → n < length (found g m n) → length (found g m n) ≤ c → Unfinished g m n
         → is_finished (at g m n) ≡ true → Outcome c a
-    full : (n : ℕ) → a ≡ Ends.Undecided (n + 1) → n < length (found g m n) → length (found g m n) ≤ c → Unfinished g m (suc n)
+    full : (n : ℕ) → a ≡ Ok (Ends.Undecided (n + 1)) → n < length (found g m n) → length (found g m n) ≤ c → Unfinished g m (suc n)
         → c < length (found g m (suc n)) → Outcome c a
 
   unfinished_more : (i : ℕ) → Unfinished g m i → is_finished (at g m i) ≡ false → Unfinished g m (suc i)
@@ -70,7 +73,7 @@ module _ (g : Graph) (m : Marking) where
       More = suc i ≤ length (found g m (suc i)) → length (found g m (suc i)) ≤ c → Unfinished g m (suc i) → Outcome c (search_from k c g m (suc i))
 
       three : (b : Bool) → ltb c (length (found g m (suc i))) ≡ b → i < length (found g m i) → is_finished (at g m i) ≡ false → More
-          → Outcome c (cond b (Ends.Undecided (i + 1)) (search_from k c g m (suc i)))
+          → Outcome c (cond b (Ok (Ends.Undecided (i + 1))) (search_from k c g m (suc i)))
       three true q l2 f rest = full i refl l2 h (unfinished_more i u f) (ltb-true c (length (found g m (suc i))) q)
       three false q l2 f rest =
           let a : length (found g m i) ≤ length (found g m (suc i)) = found_length g m i (suc i) (omega arith) in
@@ -78,14 +81,14 @@ module _ (g : Graph) (m : Marking) where
           (unfinished_more i u f)
 
       two : (b : Bool) → is_finished (at g m i) ≡ b → i < length (found g m i) → More
-          → Outcome c (cond b (Ends.Reachable (depth g m i) (i + 1))
-          (cond (ltb c (length (found g m (suc i)))) (Ends.Undecided (i + 1)) (search_from k c g m (suc i))))
+          → Outcome c (cond b (Ok (Ends.Reachable (depth g m i) (i + 1)))
+          (cond (ltb c (length (found g m (suc i)))) (Ok (Ends.Undecided (i + 1))) (search_from k c g m (suc i))))
       two true q l2 rest = reach i refl l2 h u q
       two false q l2 rest = three (ltb c (length (found g m (suc i)))) refl l2 q rest
 
       one : (b : Bool) → leb (length (found g m i)) i ≡ b → More
-          → Outcome c (cond b (Ends.None i) (cond (is_finished (at g m i)) (Ends.Reachable (depth g m i) (i + 1))
-          (cond (ltb c (length (found g m (suc i)))) (Ends.Undecided (i + 1)) (search_from k c g m (suc i)))))
+          → Outcome c (cond b (Ok (Ends.None i)) (cond (is_finished (at g m i)) (Ok (Ends.Reachable (depth g m i) (i + 1)))
+          (cond (ltb c (length (found g m (suc i)))) (Ok (Ends.Undecided (i + 1))) (search_from k c g m (suc i)))))
       one true q rest =
           let a : length (found g m i) ≤ i = leb-true (length (found g m i)) i q in
           never i refl (let z : length (found g m i) ≡ i = omega arith in z) (let z : i ≤ c = omega arith in z) u
@@ -195,7 +198,7 @@ unfolding journal_of
 length_journal [] = refl
 length_journal (e ∷ es) = let r : length (journal_of es) ≡ 3 * length es = length_journal es in omega arith
 
-taken_named : (g : Graph) (m z : Marking) (e : Entry) → the_move g m e ≡ Move.Moved z → Named g e
+taken_named : (g : Graph) (m z : Marking) (e : Entry) → the_move g m e ≡ Ok z → Named g e
 taken_named g m z e q = known_named g e (allowed_known g m e ((asked_taken g m e).1 (z, q))).1
 
 -- what passes names people, steps and roles, of which there are few
@@ -210,11 +213,11 @@ bytes_journal g m z (e ∷ es) c p (suc (suc (suc i))) = bytes_journal g p.0 z e
 
 -- ---- the answers, with nothing against graph, marking and store
 
-module _ (g : Graph) (m : Marking) (store : List ℕ) (answered : first (ends_lines g m store) ≡ Verdict.Clear) where
-  behind_graph : first (marking_lines g m ++ ((Store, not (store_fits store)) ∷ [])) ≡ Verdict.Clear
+module _ (g : Graph) (m : Marking) (store : List ℕ) (answered : first (ends_lines g m store) ≡ Ok tt) where
+  behind_graph : first (marking_lines g m ++ ((Store, not (store_fits store)) ∷ [])) ≡ Ok tt
   behind_graph = clear_back (graph_lines g) (marking_lines g m ++ ((Store, not (store_fits store)) ∷ [])) answered
 
-  pub clear : graph_verdict g ≡ Verdict.Clear
+  pub clear : graph_verdict g ≡ Ok tt
   clear = clear_front (graph_lines g) (marking_lines g m ++ ((Store, not (store_fits store)) ∷ [])) answered
 
   pub within : marking_fits g.steps m ≡ true
@@ -249,7 +252,7 @@ module _ (g : Graph) (m : Marking) (store : List ℕ) (answered : first (ends_li
         last = e.last;
         lent = bytes_journal g m e.last e.way (clear_counts g clear) e.passes;
         allowed = run_clear g m (journal_of e.way) clear fits within ∙ ap (run_from g m 0) (entries_journal e.way)
-            ∙ passes_run g m e.last 0 e.way e.passes ∙ ap (Ran.Ended e.last) (let z : 0 + length e.way ≡ n = omega arith in z);
+            ∙ passes_run g m e.last 0 e.way e.passes ∙ ap ((λ x. Ok (ended e.last x))) (let z : 0 + length e.way ≡ n = omega arith in z);
         finished = e.finished;
       }
 
@@ -298,60 +301,60 @@ module _ (g : Graph) (m : Marking) (store : List ℕ) (answered : first (ends_li
   -- ---- the three answers
 
   -- undecided: exactly if the store runs over before a finished marking has its turn
-  pub undecided_exactly : ((k : ℕ) × (the_ends g m store ≡ Ends.Undecided k)) ↔ Overflows (room store) g m
+  pub undecided_exactly : ((k : ℕ) × (the_ends g m store ≡ Ok (Ends.Undecided k))) ↔ Overflows (room store) g m
   undecided_exactly = (λ w. there w.0 w.1 comes, λ o. back o comes)
     where
-      there : (k : ℕ) → the_ends g m store ≡ Ends.Undecided k → Outcome g m c (the_ends g m store) → Overflows c g m
+      there : (k : ℕ) → the_ends g m store ≡ Ok (Ends.Undecided k) → Outcome g m c (the_ends g m store) → Overflows c g m
       there k e (never n p q r s) = differ (cc)
       there k e (reach n p q r s t) = differ (cc)
       there k e (full n p q r s t) = record { turn = n; there = q; unended = s; over = t }
 
-      back : Overflows c g m → Outcome g m c (the_ends g m store) → (k : ℕ) × (the_ends g m store ≡ Ends.Undecided k)
+      back : Overflows c g m → Outcome g m c (the_ends g m store) → (k : ℕ) × (the_ends g m store ≡ Ok (Ends.Undecided k))
       back o (never n p q r s) = absurd (never_fits n q r o)
       back o (reach n p q r s t) = absurd (reach_fits n q r s t o)
       back o (full n p q r s t) = (n + 1, p)
 
   -- where it does not run over, none: exactly if no journal that runs through ends the job
   pub none_exactly : (Overflows (room store) g m → ⊥)
-      → ((k : ℕ) × (the_ends g m store ≡ Ends.None k)) ↔ ((n : ℕ) → JournalEnds g m n → ⊥)
+      → ((k : ℕ) × (the_ends g m store ≡ Ok (Ends.None k))) ↔ ((n : ℕ) → JournalEnds g m n → ⊥)
   none_exactly fits = (λ w. there w.0 w.1 comes, λ out. back out comes)
     where
-      there : (k : ℕ) → the_ends g m store ≡ Ends.None k → Outcome g m c (the_ends g m store) → (n : ℕ) → JournalEnds g m n → ⊥
+      there : (k : ℕ) → the_ends g m store ≡ Ok (Ends.None k) → Outcome g m c (the_ends g m store) → (n : ℕ) → JournalEnds g m n → ⊥
       there k e (never i p q r s) n j = never_none g m i n q s (to_entries n j)
       there k e (reach i p q r s t) n j = differ (cc)
       there k e (full i p q r s t) n j = differ (cc)
 
-      back : ((n : ℕ) → JournalEnds g m n → ⊥) → Outcome g m c (the_ends g m store) → (k : ℕ) × (the_ends g m store ≡ Ends.None k)
+      back : ((n : ℕ) → JournalEnds g m n → ⊥) → Outcome g m c (the_ends g m store) → (k : ℕ) × (the_ends g m store ≡ Ok (Ends.None k))
       back out (never n p q r s) = (n, p)
       back out (reach n p q r s t) = absurd (out (depth g m n) (reach_fewest n q r s t).can)
       back out (full n p q r s t) = absurd (fits (record { turn = n; there = q; unended = s; over = t }))
 
   -- and reachable with n: exactly if a journal of n entries ends it, and none of fewer
   pub reachable_exactly : (Overflows (room store) g m → ⊥) → (n : ℕ)
-      → ((k : ℕ) × (the_ends g m store ≡ Ends.Reachable n k)) ↔ FewestEntries g m n
+      → ((k : ℕ) × (the_ends g m store ≡ Ok (Ends.Reachable n k))) ↔ FewestEntries g m n
   reachable_exactly fits n = (λ w. there w.0 w.1 comes, λ f. back f comes)
     where
-      there : (k : ℕ) → the_ends g m store ≡ Ends.Reachable n k → Outcome g m c (the_ends g m store) → FewestEntries g m n
+      there : (k : ℕ) → the_ends g m store ≡ Ok (Ends.Reachable n k) → Outcome g m c (the_ends g m store) → FewestEntries g m n
       there k e (never i p q r s) = differ (cc)
       there k e (reach i p q r s t) = let d : depth g m i ≡ n = cc in subst (FewestEntries g m) d (reach_fewest i q r s t)
       there k e (full i p q r s t) = differ (cc)
 
-      back : FewestEntries g m n → Outcome g m c (the_ends g m store) → (k : ℕ) × (the_ends g m store ≡ Ends.Reachable n k)
+      back : FewestEntries g m n → Outcome g m c (the_ends g m store) → (k : ℕ) × (the_ends g m store ≡ Ok (Ends.Reachable n k))
       back f (never i p q r s) = absurd (never_none g m i n q s (to_entries n f.can))
       back f (reach i p q r s t) =
           let d : depth g m i ≡ n = fewest_unique (depth g m i) n (reach_fewest i q r s t) f in
-          (i + 1, p ∙ ap (λ (x : ℕ). Ends.Reachable x (i + 1)) d)
+          (i + 1, p ∙ ap (λ (x : ℕ). Ok (Ends.Reachable x (i + 1))) d)
       back f (full i p q r s t) = absurd (fits (record { turn = i; there = q; unended = s; over = t }))
 
   -- what is said holds whatever the room: a job that can end is never said not to, nor the other way round
-  pub none_true : (k : ℕ) → the_ends g m store ≡ Ends.None k → (n : ℕ) → JournalEnds g m n → ⊥
+  pub none_true : (k : ℕ) → the_ends g m store ≡ Ok (Ends.None k) → (n : ℕ) → JournalEnds g m n → ⊥
   none_true k e = (none_exactly (λ o. go k e (undecided_exactly.1 o))).0 (k, e)
     where
-      go : (k : ℕ) → the_ends g m store ≡ Ends.None k → (j : ℕ) × (the_ends g m store ≡ Ends.Undecided j) → ⊥
+      go : (k : ℕ) → the_ends g m store ≡ Ok (Ends.None k) → (j : ℕ) × (the_ends g m store ≡ Ok (Ends.Undecided j)) → ⊥
       go k e w = let u = w.1 in differ (cc)
 
-  pub reachable_true : (n k : ℕ) → the_ends g m store ≡ Ends.Reachable n k → FewestEntries g m n
+  pub reachable_true : (n k : ℕ) → the_ends g m store ≡ Ok (Ends.Reachable n k) → FewestEntries g m n
   reachable_true n k e = (reachable_exactly (λ o. go n k e (undecided_exactly.1 o)) n).0 (k, e)
     where
-      go : (n k : ℕ) → the_ends g m store ≡ Ends.Reachable n k → (j : ℕ) × (the_ends g m store ≡ Ends.Undecided j) → ⊥
+      go : (n k : ℕ) → the_ends g m store ≡ Ok (Ends.Reachable n k) → (j : ℕ) × (the_ends g m store ≡ Ok (Ends.Undecided j)) → ⊥
       go n k e w = let u = w.1 in differ (cc)

@@ -9,7 +9,7 @@ use Rattle.std.proofs.Math.Decide.{dec_lt}
 use Rattle.std.proofs.Math.ListN.{length}
 use Rattle.moves.specs.declared.Marking.{Marking}
 use Rattle.moves.specs.declared.Entry.{Entry}
-use Rattle.moves.specs.declared.Move.{Move}
+use Rattle.moves.specs.Move.{Move}
 use Rattle.moves.specs.Move.{no_marking}
 use Rattle.rules.specs.Graph.{Graph}
 use Rattle.rules.specs.Answers.{the_move}
@@ -19,6 +19,7 @@ use Rattle.deadend.specs.Taker.{next}
 use Rattle.deadend.specs.Takers.{taken_step, next_of_lem, next_entry}
 use Rattle.deadend.specs.DeadEnd.{found, at, nearer}
 use Rattle.deadend.specs.Order.{tried_starts, tried_in, tried_from, found_next, found_past, found_starts, place_kept, alive}
+use Rattle.std.specs.Prelude.{Ok}
 
 module _ (g : Graph) (m : Marking) where
   -- at most d allowed entries lead to z
@@ -31,12 +32,12 @@ module _ (g : Graph) (m : Marking) where
   unfolding Passes
   within_none d = record { way = []; few = zero-le; passes = refl }
 
-  passes_more : (es : List Entry) (a z y : Marking) (e : Entry) → Passes g a es z → the_move g z e ≡ Move.Moved y → Passes g a (es ++ (e ∷ [])) y
+  passes_more : (es : List Entry) (a z y : Marking) (e : Entry) → Passes g a es z → the_move g z e ≡ Ok y → Passes g a (es ++ (e ∷ [])) y
   unfolding Passes
   passes_more [] a z y e p q = (y, ap (λ (x : Marking). the_move g x e) p ∙ q, refl)
   passes_more (x ∷ es) a z y e p q = (p.0, p.1, passes_more es p.0 z y e p.2 q)
 
-  within_more : (d s : ℕ) (z y : Marking) → Within d z → next g z s ≡ Move.Moved y → Within (suc d) y
+  within_more : (d s : ℕ) (z y : Marking) → Within d z → next g z s ≡ Ok y → Within (suc d) y
   within_more d s z y w q =
       let e = next_entry g z s y q in
       let l : length (w.way ++ (e.0 ∷ [])) ≡ length w.way + 1 = length-append w.way (e.0 ∷ []) in

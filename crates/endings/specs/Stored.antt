@@ -4,7 +4,7 @@ use Rattle.std.specs.Prelude.{ℕ, zero, suc, ◌*◌, ◌^◌, ◌≤◌, ◌<�
 use Rattle.std.proofs.Common.{sym, ◌∙◌, subst, arith, lt_of_lt_of_le, get_or-take, drop_at, pow_mono}
 use Rattle.std.proofs.Math.Path.{ap}
 use Rattle.moves.specs.declared.Marking.{Marking}
-use Rattle.moves.specs.declared.Verdict.{Verdict}
+use Rattle.moves.specs.First.{Verdict}
 use Rattle.moves.specs.First.{first}
 use Rattle.moves.specs.Move.{no_marking}
 use Rattle.moves.specs.Inside.{Inside, fits_inside}
@@ -16,6 +16,7 @@ use Rattle.store.specs.Cells.{laid_at, length_laid}
 use Rattle.deadend.specs.DeadEnd.{found, search, expanded, ends_lines, left_in, store_of, store_after}
 use Rattle.deadend.specs.Order.{found_inside}
 use Rattle.endings.specs.Endings.{clear, within}
+use Rattle.std.specs.Prelude.{Ok}
 
 -- all that was found
 abbrev pub all_found : Graph → Marking → List ℕ → List Marking
@@ -36,7 +37,7 @@ front_place (suc c) (x ∷ f) (suc p) h =
     let b : p < length f = r.1 in
     (let w : suc p < suc c = omega arith in w, let w : suc p < suc (length f) = omega arith in w)
 
-module _ (g : Graph) (m : Marking) (store : List ℕ) (answered : first (ends_lines g m store) ≡ Verdict.Clear) where
+module _ (g : Graph) (m : Marking) (store : List ℕ) (answered : first (ends_lines g m store) ≡ Ok tt) where
   new : store_after g m store ≡ laid (stored g m store) ++ drop (24 * length (stored g m store)) store
   unfolding store_after store_of
   new = ap (λ (v : Verdict). store_of v (left_in store g m) store) answered

@@ -4,16 +4,18 @@ use Rattle.numbers.specs.Numbers.{Bytes}
 use Rattle.moves.specs.declared.Marking.{Marking}
 use Rattle.moves.specs.Move.{is_finished}
 use Rattle.rules.specs.Graph.{Graph}
-use Rattle.journal.specs.declared.Ran.{Ran}
+use Rattle.journal.specs.Ran.{Ran}
 use Rattle.journal.specs.Run.{the_run}
 use Rattle.deadend.specs.DeadEnd.{found, at}
+use Rattle.std.specs.Prelude.{Ok}
+use Rattle.journal.specs.Ran.{ended}
 
 -- some allowed journal of n entries, run from m, ends finished
 pub record JournalEnds (g : Graph) (m : Marking) (n : ℕ) : Type 0 where
   pub journal : List ℕ
   pub last : Marking
   pub lent : Bytes journal
-  pub allowed : the_run g m journal ≡ Ran.Ended last n
+  pub allowed : the_run g m journal ≡ Ok (ended last n)
   pub finished : is_finished last ≡ true
 
 -- and none of fewer entries does

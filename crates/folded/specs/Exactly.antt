@@ -13,7 +13,7 @@ use Rattle.sets.specs.Truth.{and_left, or_first}
 use Rattle.sets.specs.Laws.{has_union, has_meet, has_minus, has_full, has_zero, member_below, members_empty}
 use Rattle.moves.specs.declared.Marking.{Marking}
 use Rattle.moves.specs.declared.Entry.{Entry}
-use Rattle.moves.specs.declared.Verdict.{Verdict}
+use Rattle.moves.specs.First.{Verdict}
 use Rattle.moves.specs.Move.{marking_fits, after, is_included, waits_for, person_holds, step_has}
 use Rattle.moves.specs.Inside.{inside_fits}
 use Rattle.rules.specs.Graph.{Graph, graph_verdict, conditions_of, includes_of, excludes_of}
@@ -23,7 +23,7 @@ use Rattle.rules.specs.Sound.{Sound, clear_sound}
 use Rattle.journal.specs.Journal.{entries, length_fits}
 use Rattle.journal.specs.Run.{the_run}
 use Rattle.records.specs.declared.Record.{Record}
-use Rattle.records.specs.declared.Recorded.{Recorded}
+use Rattle.records.specs.Answers.{Recorded}
 use Rattle.records.specs.Records.{acts, applies, gives, well_formed}
 use Rattle.records.specs.Laws.{applies_never}
 use Rattle.records.specs.WellFormed.{well_formed_lem}
@@ -34,6 +34,7 @@ use Rattle.folding.specs.Laws.{moved_if, acts_fold, fold_well_formed}
 use Rattle.folding.specs.Answers.{the_fold}
 use Rattle.folding.specs.Answered.{fold_clear}
 use Rattle.folded.specs.Theorems.{end_of, Folding, folding, fold_tells}
+use Rattle.std.specs.Prelude.{Ok}
 
 -- ---- the one record
 
@@ -41,15 +42,15 @@ use Rattle.folded.specs.Theorems.{end_of, Folding, folding, fold_tells}
 abbrev pub Tells : Graph → List ℕ → Record → Type 0
 Tells g j r = (m : Marking) → marking_fits g.steps m ≡ true → acts r m ≡ end_of (the_run g m j)
 
-pub fold_exactly : (g : Graph) (j : List ℕ) (r : Record) → graph_verdict g ≡ Verdict.Clear → length_fits j ≡ true
-    → (the_fold g j ≡ Recorded.Made r) ↔ ((well_formed g.steps r ≡ true) × Tells g j r)
+pub fold_exactly : (g : Graph) (j : List ℕ) (r : Record) → graph_verdict g ≡ Ok tt → length_fits j ≡ true
+    → (the_fold g j ≡ Ok r) ↔ ((well_formed g.steps r ≡ true) × Tells g j r)
 fold_exactly g j r clear long = (fold_tells g j r, back)
   where
-    back : (well_formed g.steps r ≡ true) × Tells g j r → the_fold g j ≡ Recorded.Made r
+    back : (well_formed g.steps r ≡ true) × Tells g j r → the_fold g j ≡ Ok r
     back t =
-        let made : the_fold g j ≡ Recorded.Made (fold_of g (entries j)) = fold_clear g j clear long in
+        let made : the_fold g j ≡ Ok (fold_of g (entries j)) = fold_clear g j clear long in
         let told = fold_tells g j (fold_of g (entries j)) made in
-        made ∙ ap Recorded.Made
+        made ∙ ap Ok
         (unique g.steps (fold_of g (entries j)) r (well_formed_lem g.steps (fold_of g (entries j)) told.0)
         (well_formed_lem g.steps r t.0)
         (λ m i. told.1 m (inside_fits g.steps m i) ∙ sym (t.1 m (inside_fits g.steps m i))))
@@ -243,7 +244,7 @@ fold_barred g es sound = go (fold_of g es).never refl (barred g 0 es) refl
         some_none (acts r all) goes.0 (acted ∙ goes.1) (ap (λ (b : Bool). cond b (some (gives r all)) none) (applies_never r all p))
 
 -- The fold of a journal is never exactly if an entry is barred; and exactly if no marking of the graph lets every entry pass
-module _ (g : Graph) (j : List ℕ) (r : Record) (e : the_fold g j ≡ Recorded.Made r) where
+module _ (g : Graph) (j : List ℕ) (r : Record) (e : the_fold g j ≡ Ok r) where
   pub never_causes : r.never ≡ barred g 0 (entries j)
   never_causes =
       let f : Folding g j r = folding g j r e in

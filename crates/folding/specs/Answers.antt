@@ -5,14 +5,16 @@ use Rattle.moves.specs.declared.Marking.{Marking}
 use Rattle.moves.specs.declared.Refusal.TheVariants.{IllFormed, NotApplied}
 use Rattle.moves.specs.First.{Line, first}
 use Rattle.rules.specs.Answers.{marking_lines}
-use Rattle.journal.specs.declared.Ran.{Ran}
+use Rattle.journal.specs.Ran.{Ran}
 use Rattle.journal.specs.Journal.{entries}
 use Rattle.journal.specs.Run.{run_from, ran_of, length_lines}
 use Rattle.records.specs.declared.Record.{Record}
-use Rattle.records.specs.declared.Recorded.{Recorded}
+use Rattle.records.specs.Answers.{Recorded}
 use Rattle.records.specs.Records.{applies, gives, well_formed}
 use Rattle.records.specs.Answers.{recorded_of}
 use Rattle.folding.specs.Fold.{fold_of}
+use Rattle.std.specs.Prelude.{Err}
+use Rattle.journal.specs.Ran.{stopped}
 
 -- ---- fold: 2, 4, 6, 7. An entry that no marking could allow is no refusal
 
@@ -30,4 +32,4 @@ restore_lines g r j m = graph_lines g ++ length_lines j ++ marking_lines g m ++ 
 -- 16 gives back the marking handed in; no entry is looked at before the record has applied
 unfoldable pub the_restoring : Graph → Record → List ℕ → Marking → Ran
 the_restoring g r j m =
-    ran_of (first (restore_lines g r j m)) (cond (applies r m) (run_from g (gives r m) 0 (entries j)) (Ran.Stopped 0 m NotApplied))
+    ran_of (first (restore_lines g r j m)) (cond (applies r m) (run_from g (gives r m) 0 (entries j)) (Err (stopped 0 m NotApplied)))

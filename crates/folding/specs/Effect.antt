@@ -1,7 +1,7 @@
 -- What a list of entries does, allowed one by one or not. No promise speaks of it: folds and laps are proved through it.
 use Rattle.std.specs.Prelude.{List, [], ◌∷◌}
 use Rattle.std.proofs.Math.Option.{Option, none, some, bind}
-use Rattle.moves.specs.declared.Move.{Move}
+use Rattle.moves.specs.Move.{Move}
 use Rattle.rules.specs.Answers.{entry_move}
 use Rattle.rules.specs.Graph.{Graph}
 use Rattle.moves.specs.declared.Marking.{Marking}
@@ -10,6 +10,7 @@ use Rattle.moves.specs.Move.{after}
 use Rattle.records.specs.declared.Record.{Record}
 use Rattle.records.specs.Records.{identity, compose}
 use Rattle.folding.specs.Fold.{row_met, step_record}
+use Rattle.std.specs.Prelude.{Ok, Err}
 
 -- the marking after the steps of all the entries, allowed or not
 unfoldable pub after_all : Graph → Marking → List Entry → Marking
@@ -25,8 +26,8 @@ effect g (e ∷ rest) = compose (step_record (row_met g e) e.step.0) (effect g r
 
 -- the marking after an allowed entry
 unfoldable pub moved_to : Move → Option Marking
-moved_to (Move.Moved next) = some next
-moved_to (Move.Refused back r) = none
+moved_to (Ok next) = some next
+moved_to (Err d) = none
 
 -- the end marking, if every entry is allowed
 unfoldable pub end_of_all : Graph → Marking → List Entry → Option Marking

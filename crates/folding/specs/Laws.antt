@@ -13,11 +13,11 @@ use Rattle.moves.specs.declared.inner.Row.{Row}
 use Rattle.moves.specs.declared.Marking.{Marking}
 use Rattle.moves.specs.declared.Entry.{Entry}
 use Rattle.moves.specs.declared.Refusal.TheVariants.{Unknown, NotHeld, NotOnStep, Excluded, Waits}
-use Rattle.moves.specs.declared.Verdict.{Verdict}
-use Rattle.moves.specs.declared.Move.{Move}
+use Rattle.moves.specs.First.{Verdict}
+use Rattle.moves.specs.Move.{Move}
 use Rattle.moves.specs.First.{first}
 use Rattle.rules.specs.Answers.{entry_known, entry_asked, entry_move}
-use Rattle.moves.specs.Move.{person_holds, step_has, is_included, waits_for, after, asked_of, move_of}
+use Rattle.moves.specs.Move.{person_holds, step_has, is_included, waits_for, after, move_of}
 use Rattle.rules.specs.Entries.{entry_after}
 use Rattle.rules.specs.Sound.{Sound}
 use Rattle.journal.specs.Journal.{entries, entry_at}
@@ -32,6 +32,7 @@ use Rattle.exact.specs.Theorems.{then_none, then_again, then_same, join_assoc, j
 use Rattle.folding.specs.Fold.{row_met, step_record, possible, entry_record, fold_of}
 use Rattle.folding.specs.Effect.{moved_to, end_of_all, after_all, effect}
 use Rattle.folding.specs.Possible.{possible_serves}
+use Rattle.std.specs.Prelude.{Ok, Err}
 
 -- ---- one entry
 
@@ -69,12 +70,12 @@ applies_step w s m = simp (single_within s m.included, and_true)
 
 -- an entry passes exactly if none of its lines holds
 moved_by_lines : (p q r i w : Bool) (awaited : ℕ) (m next : Marking)
-    → moved_to (move_of (asked_of (cond (not p) (Verdict.Refused Unknown)
-    (cond (not q) (Verdict.Refused NotHeld)
-    (cond (not r) (Verdict.Refused NotOnStep)
-    (cond (not i) (Verdict.Refused Excluded) (cond (not w) (Verdict.Refused (Waits awaited)) Verdict.Clear)))))) m next)
+    → moved_to (move_of ((cond (not p) (Err Unknown)
+    (cond (not q) (Err NotHeld)
+    (cond (not r) (Err NotOnStep)
+    (cond (not i) (Err Excluded) (cond (not w) (Err (Waits awaited)) (Ok tt))))))) m next)
     ≡ cond (p && q && r) (cond (i && w) (some next) none) none
-unfolding moved_to asked_of move_of
+unfolding moved_to move_of
 moved_by_lines false q r i w awaited m next = refl
 moved_by_lines true false r i w awaited m next = refl
 moved_by_lines true true false i w awaited m next = refl
@@ -114,7 +115,7 @@ unfolding entry_record
 record_unknown g e k = simp k
 
 -- in a graph with nothing against it, the roles alone say whether some marking could allow an entry
-pub record_serves : (g : Graph) (e : Entry) (p : Bool) → graph_verdict g ≡ Verdict.Clear → e.step.0 < g.steps
+pub record_serves : (g : Graph) (e : Entry) (p : Bool) → graph_verdict g ≡ Ok tt → e.step.0 < g.steps
     → (person_holds (row_met g e) e && step_has (row_met g e) e) ≡ p
     → entry_record g e ≡ cond p (step_record (row_met g e) e.step.0) impossible
 unfolding entry_record
@@ -322,6 +323,6 @@ passes_after g (e ∷ es) m x p = go (entry_move g m e) refl (passes_after g es)
     go : (o : Move) → entry_move g m e ≡ o → ((m x : Marking) → end_of_all g m es ≡ some x → x ≡ after_all g m es)
         → bind (moved_to o) (λ next. end_of_all g next es) ≡ some x
         → x ≡ after_all g (after (row_met g e) m e.step.0) es
-    go (Move.Moved next) q rest p = rest next x p
+    go (Ok next) q rest p = rest next x p
         ∙ ap (λ (n : Marking). after_all g n es) (sym (entry_after g m next e q).1)
-    go (Move.Refused back r) q rest p = absurd (none-ne-some x p)
+    go (Err d) q rest p = absurd (none-ne-some x p)

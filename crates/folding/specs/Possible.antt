@@ -6,14 +6,15 @@ use Rattle.sets.specs.Truth.{and_left, and_right, and_intro, same_truth}
 use Rattle.sets.specs.Laws.{member_below}
 use Rattle.rules.specs.Graph.{Graph, graph_verdict, roles_held}
 use Rattle.moves.specs.declared.Entry.{Entry}
-use Rattle.moves.specs.declared.Verdict.{Verdict}
+use Rattle.moves.specs.First.{Verdict}
 use Rattle.rules.specs.Answers.{entry_known}
 use Rattle.moves.specs.Move.{person_holds, step_has}
 use Rattle.rules.specs.Sound.{clear_sound}
 use Rattle.folding.specs.Fold.{row_met, possible}
+use Rattle.std.specs.Prelude.{Ok}
 
 -- an entry of a known step is possible exactly if its person holds the role and the step has it
-pub possible_serves : (g : Graph) (e : Entry) → graph_verdict g ≡ Verdict.Clear → e.step.0 < g.steps
+pub possible_serves : (g : Graph) (e : Entry) → graph_verdict g ≡ Ok tt → e.step.0 < g.steps
     → possible g e ≡ (person_holds (row_met g e) e && step_has (row_met g e) e)
 possible_serves g e clear known =
     same_truth (possible g e) (held && has_it)

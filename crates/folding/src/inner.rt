@@ -2,7 +2,6 @@
 ghost use Rattle.std.specs.Prelude.{◌≡◌, ◌%◌, ◌<◌, length, ◌&&◌};
 ghost use Rattle.sets.specs.Sets.{has};
 ghost use Rattle.rules.specs.Graph.{graph_of, graph_verdict};
-ghost use Rattle.moves.specs.declared.Verdict.{Verdict};
 ghost use Rattle.journal.specs.Journal.{entries};
 ghost use Rattle.folding.specs.Fold.{step_record, entry_record, fold_of};
 
@@ -44,7 +43,7 @@ pub fn step_record(w: Row, s: u8) -> Record
 // What an entry needs and does, with nothing tidied, on a graph with nothing against it: there only a known person holds a role, and
 // only known roles are held, so that these counts need not be looked at.
 pub fn entry_record(g: &Job, e: Entry) -> Record
-    requires { graph_verdict (graph_of g.now) ≡ Verdict.Clear }
+    requires { graph_verdict (graph_of g.now) ≡ Ok tt }
     ensures { result ≡ entry_record (graph_of g.now) e }
 {
     let p = e.person;
@@ -86,7 +85,7 @@ pub fn cleared(r: Record) -> Record
 
 // The entries, on a graph and a journal that are as they should be.
 pub fn fold_entries<'a, 'b>(g: &'a Job, j: &'b [u8]) -> Record
-    requires { (graph_verdict (graph_of g.now) ≡ Verdict.Clear) × (length j.now % 3 ≡ 0) }
+    requires { (graph_verdict (graph_of g.now) ≡ Ok tt) × (length j.now % 3 ≡ 0) }
     ensures { result ≡ fold_of (graph_of g.now) (entries j.now) }
 {
     let count = j.len() / 3;

@@ -16,28 +16,28 @@ use rules::Job;
 pub mod inner;
 
 // The record of a journal on a graph. Refusals 2, 4, 6, 7.
-pub fn fold<'a, 'b>(g: &'a Job, j: &'b [u8]) -> Recorded
+pub fn fold<'a, 'b>(g: &'a Job, j: &'b [u8]) -> Result<Record, Refusal>
     ensures { result ≡ the_fold (graph_of g.now) j.now }
 {
     let v = rules::check(g);
-    if let Verdict::Refused(r) = v {
-        return Recorded::Refused(r);
+    if let Err(r) = v {
+        return Err(r);
     }
     if !length_fits(j) {
-        return Recorded::Refused(Refusal::Length);
+        return Err(Refusal::Length);
     }
-    Recorded::Made(fold_entries(g, j))
+    Ok(fold_entries(g, j))
 }
 
 // A record, then the rest of a journal, from a marking: what a cabinet does after a reboot. Refusals 2, 4, 6, 7, 8, 10, 16, then 11
 // to 15 of the earliest refused entry.
-pub fn restore<'a, 'b>(g: &'a Job, r: Record, j: &'b [u8], m: Marking) -> Ran
+pub fn restore<'a, 'b>(g: &'a Job, r: Record, j: &'b [u8], m: Marking) -> Result<Ended, Stopped>
     ensures { result ≡ the_restoring (graph_of g.now) r j.now m }
 {
     let steps = g[0];
     let v = rules::check(g);
-    if let Verdict::Refused(q) = v {
-        return Ran::Stopped(0, NONE, q);
+    if let Err(q) = v {
+        return Err(Stopped { index: 0, marking: NONE, refusal: q });
     }
     if !length_fits(j) {
         return Ran::Stopped(0, NONE, Refusal::Length);

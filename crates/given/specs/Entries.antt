@@ -6,31 +6,35 @@ use Rattle.std.specs.Prelude.{ℕ, ◌<◌, ◌≡◌, List, true, cond}
 use Rattle.std.proofs.Math.Path.{refl}
 use Rattle.std.proofs.Common.{sym, ap, arith}
 use Rattle.moves.specs.declared.Marking.{Marking}
-use Rattle.moves.specs.declared.Verdict.{Verdict}
+use Rattle.moves.specs.First.{Verdict}
 use Rattle.moves.specs.First.{Line, first, number_of_verdict, number_of}
 use Rattle.moves.specs.Given.{ascends}
 use Rattle.rules.specs.Graph.{Graph}
-use Rattle.journal.specs.declared.Ran.{Ran}
+use Rattle.journal.specs.Ran.{Ran}
 use Rattle.journal.specs.Journal.{entries}
 use Rattle.journal.specs.Run.{run_from, ran_of, run_lines, the_run, number_of_run}
 use Rattle.moves.specs.declared.Refusal.TheVariants.{NotApplied}
 use Rattle.records.specs.declared.Record.{Record}
 use Rattle.records.specs.Records.{applies, gives}
 use Rattle.folding.specs.Answers.{restore_lines, the_restoring}
-use Rattle.laps.specs.declared.Lapped.{Lapped}
+use Rattle.laps.specs.Lapped.{Lapped}
 use Rattle.given.specs.Tables.{Exactly, exactly}
 use Rattle.laps.specs.Laps.{lap_lines, LapAnswer, number_of_lap}
+use Rattle.std.specs.Prelude.{Ok, Err}
+use Rattle.journal.specs.Ran.{stopped}
+use Rattle.laps.specs.declared.Endless.{Endless}
+use Rattle.laps.specs.declared.Broken.{Broken}
 
 -- what a table refuses is told by its number, whatever would be run
 told_number : (v : Verdict) (o : Ran) → 0 < number_of_verdict v → number_of_run (ran_of v o) ≡ number_of_verdict v
 unfolding ran_of number_of_run number_of_verdict
-told_number Verdict.Clear o h = absurd (let z : ⊥ = omega arith in z)
-told_number (Verdict.Refused r) o h = refl
+told_number (Ok _) o h = absurd (let z : ⊥ = omega arith in z)
+told_number (Err r) o h = refl
 
 -- the answer is the table's where one of its numbers holds, and else what comes of the entries
 pub record TableFirst (lines : List Line) (answer entries-give : Ran) : Type 0 where
   pub refused : 0 < number_of_verdict (first lines) → Exactly (number_of_run answer) lines
-  pub looked : first lines ≡ Verdict.Clear → answer ≡ entries-give
+  pub looked : first lines ≡ Ok tt → answer ≡ entries-give
 
 table_first : (lines : List Line) (o : Ran) → ascends 0 lines ≡ true → TableFirst lines (ran_of (first lines) o) o
 unfolding ran_of
@@ -49,7 +53,7 @@ module _ (g : Graph) (m : Marking) (j : List ℕ) where
   -- restore: 2, 4, 6, 7, 8, 10, then 16, then the entries
   pub restore_given : (r : Record)
       → TableFirst (restore_lines g r j m) (the_restoring g r j m)
-      (cond (applies r m) (run_from g (gives r m) 0 (entries j)) (Ran.Stopped 0 m NotApplied))
+      (cond (applies r m) (run_from g (gives r m) 0 (entries j)) (Err (stopped 0 m NotApplied)))
   unfolding ascends number_of the_restoring
   restore_given r = table_first (restore_lines g r j m) _ refl
 
@@ -60,11 +64,11 @@ pub lap_given : (g : Graph) (m : Marking) (stem lap : List ℕ) (o : Lapped) →
 unfolding ascends number_of number_of_lap LapAnswer number_of_verdict
 lap_given g m stem lap o a h = exactly (lap_lines g m stem lap) (number_of_lap o) refl (same o a)
   where
-    never : {A : Type 0} → first (lap_lines g m stem lap) ≡ Verdict.Clear → A
+    never : {A : Type 0} → first (lap_lines g m stem lap) ≡ Ok tt → A
     never e = absurd (let z : number_of_verdict (first (lap_lines g m stem lap)) ≡ 0 = ap number_of_verdict e in let w : ⊥ = omega arith in w)
 
     same : (q : Lapped) → LapAnswer g m stem lap q → number_of_lap q ≡ number_of_verdict (first (lap_lines g m stem lap))
-    same (Lapped.Refused r) e = sym (ap number_of_verdict e)
-    same (Lapped.Stopped k p r) e = never e.0
-    same Lapped.Accepted e = never e.0
-    same (Lapped.Starved s) e = never e.0
+    same (Err (Broken.Refused r)) e = sym (ap number_of_verdict e)
+    same (Err (Broken.Stopped k p r)) e = never e.0
+    same (Ok Endless.Accepted) e = never e.0
+    same (Ok (Endless.Starved s)) e = never e.0

@@ -7,7 +7,7 @@ use Rattle.std.proofs.Common.{sym, subst}
 use Rattle.sets.specs.Truth.{or_false}
 use Rattle.moves.specs.declared.Marking.{Marking}
 use Rattle.moves.specs.declared.Entry.{Entry}
-use Rattle.moves.specs.declared.Verdict.{Verdict}
+use Rattle.moves.specs.First.{Verdict}
 use Rattle.moves.specs.First.{Line, first, number_of_verdict, number_of}
 use Rattle.moves.specs.Move.{number_of_asked, number_of_move}
 use Rattle.moves.specs.Given.{holds, ascends, Lowest, given_exactly}
@@ -32,6 +32,8 @@ use Rattle.folding.specs.Answers.{fold_lines, the_fold}
 use Rattle.tracker.specs.declared.Track.{Track}
 use Rattle.tracker.specs.Tracker.{start_lines, idle_lines, step_lines, the_start, the_idle, the_step, number_of_tracked}
 use Rattle.automaton.specs.States.{start_number, idle_number, step_number}
+use Rattle.std.specs.Prelude.{Ok, Err, Result}
+use Rattle.moves.specs.declared.Refusal.{Refusal}
 
 -- n is the number that the table gives
 abbrev pub Exactly : ℕ → List Line → Type 0
@@ -107,7 +109,7 @@ module _ (g : Graph) where
   step_given t e = exactly (step_lines g t e) (number_of_tracked (the_step g t e)) refl (step_number g t e)
 
 -- can the job still end: 2, 4, 6, 8, 22; a search that is begun is answered
-number_cond : (b : Bool) (x y : Ends) → number_of_ends (cond b x y) ≡ cond b (number_of_ends x) (number_of_ends y)
+number_cond : (b : Bool) (x y : (Result Ends Refusal)) → number_of_ends (cond b x y) ≡ cond b (number_of_ends x) (number_of_ends y)
 number_cond true x y = refl
 number_cond false x y = refl
 
@@ -120,10 +122,10 @@ unfolding search_from number_of_ends
 search_answered zero c g m i = refl
 search_answered (suc k) c g m i = simp (number_cond, search_answered k c g m (suc i), cond_same)
 
-ends_number : (v : Verdict) (o : Ends) → number_of_ends o ≡ 0 → number_of_ends (ends_of v o) ≡ number_of_verdict v
+ends_number : (v : Verdict) (o : (Result Ends Refusal)) → number_of_ends o ≡ 0 → number_of_ends (ends_of v o) ≡ number_of_verdict v
 unfolding ends_of number_of_ends number_of_verdict
-ends_number Verdict.Clear o e = e
-ends_number (Verdict.Refused r) o e = refl
+ends_number (Ok _) o e = e
+ends_number (Err r) o e = refl
 
 pub ends_given : (g : Graph) (m : Marking) (s : List ℕ) → Exactly (number_of_ends (the_ends g m s)) (ends_lines g m s)
 unfolding ascends number_of the_ends search
@@ -134,8 +136,8 @@ ends_given g m s = exactly (ends_lines g m s) (number_of_ends (the_ends g m s)) 
 walked_number : (k : ℕ) (v : Verdict) (s : Stride) → number_of_walked s.said ≡ 0
     → number_of_walked (stride_of k v s).said ≡ number_of_verdict v
 unfolding stride_of number_of_walked number_of_verdict
-walked_number k Verdict.Clear s e = e
-walked_number k (Verdict.Refused r) s e = refl
+walked_number k (Ok _) s e = e
+walked_number k (Err r) s e = refl
 
 handed_number : (k : ℕ) (es : List Entry) → number_of_walked (hand_out k es).said ≡ 0
 unfolding hand_out number_of_walked

@@ -3,18 +3,17 @@ use Rattle.std.specs.Prelude.{ℕ, List, [], ◌∷◌, ◌++◌, Bool, true, fa
 use Rattle.sets.specs.Sets.{any, those}
 use Rattle.moves.specs.declared.Marking.{Marking}
 use Rattle.moves.specs.declared.Refusal.TheVariants.{Unknown}
-use Rattle.moves.specs.declared.Verdict.{Verdict}
-use Rattle.moves.specs.declared.Asked.{Asked}
+use Rattle.moves.specs.First.{Verdict}
 use Rattle.moves.specs.First.{Line, first, number_of}
 use Rattle.moves.specs.Move.{entry_of}
 use Rattle.rules.specs.Graph.{Graph, graph_lines}
 use Rattle.rules.specs.Answers.{the_asked, marking_lines}
-use Rattle.greying.specs.declared.Choice.{Choice}
+use Rattle.std.specs.Prelude.{Ok, Err}
 
 -- the answer to who asks is yes
-unfoldable pub granted : Asked → Bool
-granted Asked.Allowed = true
-granted (Asked.Refused r) = false
+unfoldable pub granted : Verdict → Bool
+granted (Ok _) = true
+granted (Err r) = false
 
 -- step s is allowed to person p: in one of the roles `ask` allows it
 unfoldable pub allowed_to : Graph → Marking → ℕ → ℕ → Bool
@@ -35,8 +34,8 @@ choice_lines g m p = graph_lines g ++ marking_lines g m ++ person_lines g p
 -- ---- the answers
 
 unfoldable pub choice_of : Verdict → ℕ → Choice
-choice_of Verdict.Clear steps = Choice.Steps steps
-choice_of (Verdict.Refused r) steps = Choice.Refused r
+choice_of (Ok _) steps = Ok steps
+choice_of (Err r) steps = Err r
 
 -- the steps that are allowed to person p
 unfoldable pub the_choice : Graph → Marking → ℕ → Choice
@@ -50,10 +49,10 @@ the_choice_of_all g m = choice_of (first (graph_lines g ++ marking_lines g m)) (
 
 -- 0 where a set is answered, be it empty
 unfoldable pub number_of_choice : Choice → ℕ
-number_of_choice (Choice.Steps steps) = 0
-number_of_choice (Choice.Refused r) = number_of r
+number_of_choice (Ok steps) = 0
+number_of_choice (Err r) = number_of r
 
 -- with a refusal the empty set
 unfoldable pub steps_of_choice : Choice → ℕ
-steps_of_choice (Choice.Steps steps) = steps
-steps_of_choice (Choice.Refused r) = 0
+steps_of_choice (Ok steps) = steps
+steps_of_choice (Err r) = 0

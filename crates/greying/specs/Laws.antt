@@ -12,23 +12,24 @@ use Rattle.moves.specs.declared.Marking.{Marking}
 use Rattle.moves.specs.declared.Entry.{Entry}
 use Rattle.moves.specs.declared.Refusal.{Refusal}
 use Rattle.moves.specs.declared.Refusal.TheVariants.{Outside, Unknown, NotHeld, NotOnStep, Excluded, Waits}
-use Rattle.moves.specs.declared.Verdict.{Verdict}
+use Rattle.moves.specs.First.{Verdict}
 use Rattle.moves.specs.First.{Line, first}
-use Rattle.moves.specs.Move.{entry_of, asked_of, marking_fits, waits_for}
+use Rattle.moves.specs.Move.{entry_of, marking_fits, waits_for}
 use Rattle.moves.specs.Given.{first_clear, first_refused}
 use Rattle.rules.specs.Graph.{Graph, graph_lines, graph_verdict, conditions_of, roles_of, roles_held}
 use Rattle.rules.specs.Answers.{the_asked, entry_known, marking_lines}
 use Rattle.rules.specs.Laws.{asked_clear, on_inside, entry_known_lem, clear_counts}
 use Rattle.rules.specs.Sound.{clear_sound}
-use Rattle.greying.specs.declared.Choice.{Choice}
+use Rattle.greying.specs.Greying.{Choice}
 use Rattle.greying.specs.Greying.{granted, allowed_to, allowed_to_someone, person_lines, choice_of, the_choice, the_choice_of_all}
 use Rattle.greying.specs.Rows.{step_passes, steps_for}
+use Rattle.std.specs.Prelude.{Ok, Err}
 
 -- ---- one entry, asked all at once
 
 four : (x : ℕ) (a b c d : Bool)
-    → granted (asked_of (first ((NotHeld, not a) ∷ (NotOnStep, not b) ∷ (Excluded, not c) ∷ (Waits x, not d) ∷ []))) ≡ ((a && b) && (c && d))
-unfolding granted asked_of first
+    → granted ((first ((NotHeld, not a) ∷ (NotOnStep, not b) ∷ (Excluded, not c) ∷ (Waits x, not d) ∷ []))) ≡ ((a && b) && (c && d))
+unfolding granted first
 four x true true true true = refl
 four x true true true false = refl
 four x true true false d = refl
@@ -42,7 +43,7 @@ regroup true false true = refl
 regroup true false false = refl
 regroup false i w = refl
 
-module _ (g : Graph) (m : Marking) (clear : graph_verdict g ≡ Verdict.Clear) (fits : marking_fits g.steps m ≡ true) where
+module _ (g : Graph) (m : Marking) (clear : graph_verdict g ≡ Ok tt) (fits : marking_fits g.steps m ≡ true) where
   asked_tests : (e : Entry) → entry_known g e ≡ true
       → granted (the_asked g m e)
       ≡ ((has (roles_held g e.person) e.role && has (roles_of g e.step.0) e.role)
@@ -102,32 +103,32 @@ module _ (g : Graph) (m : Marking) (clear : graph_verdict g ≡ Verdict.Clear) (
 -- ---- the answers, by what is found of the graph, the marking and the person
 
 module _ (g : Graph) (rest : List Line) (steps : ℕ) where
-  by_refused : (r : Refusal) → graph_verdict g ≡ Verdict.Refused r → choice_of (first (graph_lines g ++ rest)) steps ≡ Choice.Refused r
+  by_refused : (r : Refusal) → graph_verdict g ≡ Err r → choice_of (first (graph_lines g ++ rest)) steps ≡ Err r
   unfolding choice_of
   by_refused r q = ap (λ (v : Verdict). choice_of v steps) (first_refused (graph_lines g) rest r q)
 
-  by_clear : graph_verdict g ≡ Verdict.Clear → choice_of (first (graph_lines g ++ rest)) steps ≡ choice_of (first rest) steps
+  by_clear : graph_verdict g ≡ Ok tt → choice_of (first (graph_lines g ++ rest)) steps ≡ choice_of (first rest) steps
   by_clear q = ap (λ (v : Verdict). choice_of v steps) (first_clear (graph_lines g) rest q)
 
 module _ (g : Graph) (m : Marking) (p : ℕ) where
   abbrev to_person : ℕ
   to_person = those g.steps (allowed_to g m p)
 
-  pub choice_refused : (r : Refusal) → graph_verdict g ≡ Verdict.Refused r → the_choice g m p ≡ Choice.Refused r
+  pub choice_refused : (r : Refusal) → graph_verdict g ≡ Err r → the_choice g m p ≡ Err r
   unfolding the_choice
   choice_refused = by_refused g (marking_lines g m ++ person_lines g p) to_person
 
-  pub choice_outside : graph_verdict g ≡ Verdict.Clear → marking_fits g.steps m ≡ false → the_choice g m p ≡ Choice.Refused Outside
+  pub choice_outside : graph_verdict g ≡ Ok tt → marking_fits g.steps m ≡ false → the_choice g m p ≡ Err Outside
   unfolding the_choice first choice_of
   choice_outside q f = by_clear g (marking_lines g m ++ person_lines g p) to_person q ∙ simp f
 
-  pub choice_unknown : graph_verdict g ≡ Verdict.Clear → marking_fits g.steps m ≡ true → ltb p g.people ≡ false
-      → the_choice g m p ≡ Choice.Refused Unknown
+  pub choice_unknown : graph_verdict g ≡ Ok tt → marking_fits g.steps m ≡ true → ltb p g.people ≡ false
+      → the_choice g m p ≡ Err Unknown
   unfolding the_choice first choice_of
   choice_unknown q f k = by_clear g (marking_lines g m ++ person_lines g p) to_person q ∙ simp (f, k)
 
-  pub choice_steps : graph_verdict g ≡ Verdict.Clear → marking_fits g.steps m ≡ true → ltb p g.people ≡ true
-      → the_choice g m p ≡ Choice.Steps to_person
+  pub choice_steps : graph_verdict g ≡ Ok tt → marking_fits g.steps m ≡ true → ltb p g.people ≡ true
+      → the_choice g m p ≡ Ok to_person
   unfolding the_choice first choice_of
   choice_steps q f k = by_clear g (marking_lines g m ++ person_lines g p) to_person q ∙ simp (f, k)
 
@@ -135,14 +136,14 @@ module _ (g : Graph) (m : Marking) where
   abbrev to_all : ℕ
   to_all = those g.steps (allowed_to_someone g m)
 
-  pub all_refused : (r : Refusal) → graph_verdict g ≡ Verdict.Refused r → the_choice_of_all g m ≡ Choice.Refused r
+  pub all_refused : (r : Refusal) → graph_verdict g ≡ Err r → the_choice_of_all g m ≡ Err r
   unfolding the_choice_of_all
   all_refused = by_refused g (marking_lines g m) to_all
 
-  pub all_outside : graph_verdict g ≡ Verdict.Clear → marking_fits g.steps m ≡ false → the_choice_of_all g m ≡ Choice.Refused Outside
+  pub all_outside : graph_verdict g ≡ Ok tt → marking_fits g.steps m ≡ false → the_choice_of_all g m ≡ Err Outside
   unfolding the_choice_of_all first choice_of
   all_outside q f = by_clear g (marking_lines g m) to_all q ∙ simp f
 
-  pub all_steps : graph_verdict g ≡ Verdict.Clear → marking_fits g.steps m ≡ true → the_choice_of_all g m ≡ Choice.Steps to_all
+  pub all_steps : graph_verdict g ≡ Ok tt → marking_fits g.steps m ≡ true → the_choice_of_all g m ≡ Ok to_all
   unfolding the_choice_of_all first choice_of
   all_steps q f = by_clear g (marking_lines g m) to_all q ∙ simp f

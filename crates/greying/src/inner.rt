@@ -1,7 +1,6 @@
 // The steps that are not grey, on a graph with nothing against it.
 ghost use Rattle.std.specs.Prelude.{◌≡◌};
 ghost use Rattle.sets.specs.Sets.{meet, gather};
-ghost use Rattle.moves.specs.declared.Verdict.{Verdict};
 ghost use Rattle.rules.specs.Graph.{graph_of, graph_verdict, roles_held};
 ghost use Rattle.greying.specs.Greying.{the_choice, the_choice_of_all};
 ghost use Rattle.greying.specs.Rows.{Tabled, row_passes, rows_passing, steps_for};
@@ -62,7 +61,7 @@ pub fn roles_of_all(g: &Job) -> u64
 
 // The steps that who holds these roles may take.
 pub fn steps_for(g: &Job, m: Marking, held: u64) -> u64
-    requires { graph_verdict (graph_of g.now) ≡ Verdict.Clear }
+    requires { graph_verdict (graph_of g.now) ≡ Ok tt }
     ensures { result ≡ steps_for (graph_of g.now) m held }
 {
     let n = g[0] as usize;
@@ -79,28 +78,28 @@ pub fn steps_for(g: &Job, m: Marking, held: u64) -> u64
 }
 
 // A marking and a person. Refusals 8, 11.
-pub fn choice_on(g: &Job, m: Marking, person: u64) -> Choice
-    requires { graph_verdict (graph_of g.now) ≡ Verdict.Clear }
+pub fn choice_on(g: &Job, m: Marking, person: u64) -> Result<u64, Refusal>
+    requires { graph_verdict (graph_of g.now) ≡ Ok tt }
     ensures { result ≡ the_choice (graph_of g.now) m person }
 {
     if !fits(g[0], m) {
-        return Choice::Refused(Refusal::Outside);
+        return Err(Refusal::Outside);
     }
     if g[1] <= person {
-        return Choice::Refused(Refusal::Unknown);
+        return Err(Refusal::Unknown);
     }
     let w = row_at(g, person as u8, 0);
-    Choice::Steps(steps_for(g, m, w.held))
+    Ok(steps_for(g, m, w.held))
 }
 
 // A marking, and whoever there is. Refusal 8.
-pub fn choice_of_all_on(g: &Job, m: Marking) -> Choice
-    requires { graph_verdict (graph_of g.now) ≡ Verdict.Clear }
+pub fn choice_of_all_on(g: &Job, m: Marking) -> Result<u64, Refusal>
+    requires { graph_verdict (graph_of g.now) ≡ Ok tt }
     ensures { result ≡ the_choice_of_all (graph_of g.now) m }
 {
     if !fits(g[0], m) {
-        return Choice::Refused(Refusal::Outside);
+        return Err(Refusal::Outside);
     }
     let held = roles_of_all(g);
-    Choice::Steps(steps_for(g, m, held))
+    Ok(steps_for(g, m, held))
 }

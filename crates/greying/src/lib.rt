@@ -19,25 +19,25 @@ pub enum Choice {
 }
 
 // The steps that are allowed to the person. Refusals 2, 4, 6, 8, 11.
-pub fn allowed_to(g: &Job, m: Marking, person: u64) -> Choice
+pub fn allowed_to(g: &Job, m: Marking, person: u64) -> Result<u64, Refusal>
     ensures value { result ≡ the_choice (graph_of g.now) m person }
     ensures lent { g.exit.now ≡ g.entry.now }
 {
     let v = rules::check(g);
-    if let Verdict::Refused(r) = v {
-        return Choice::Refused(r);
+    if let Err(r) = v {
+        return Err(r);
     }
     choice_on(g, m, person)
 }
 
 // The steps that are allowed to someone. Refusals 2, 4, 6, 8.
-pub fn allowed_to_someone(g: &Job, m: Marking) -> Choice
+pub fn allowed_to_someone(g: &Job, m: Marking) -> Result<u64, Refusal>
     ensures value { result ≡ the_choice_of_all (graph_of g.now) m }
     ensures lent { g.exit.now ≡ g.entry.now }
 {
     let v = rules::check(g);
-    if let Verdict::Refused(r) = v {
-        return Choice::Refused(r);
+    if let Err(r) = v {
+        return Err(r);
     }
     choice_of_all_on(g, m)
 }

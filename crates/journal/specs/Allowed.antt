@@ -1,4 +1,4 @@
--- Is an entry allowed? Asked all at once, and how a run tests it on a graph with nothing against it.
+-- Is an entry allowed? Verdict all at once, and how a run tests it on a graph with nothing against it.
 -- Assumes nothing.
 use Rattle.std.specs.Prelude.{◌^◌, ◌≤◌, ◌<◌, ◌≡◌, refl, List, [], ◌∷◌, Bool, true, false, not, ◌&&◌, cond}
 use Rattle.std.proofs.Common.{sym, ap, ◌∙◌, true≢false, arith, lt-ltb}
@@ -12,16 +12,17 @@ use Rattle.rules.specs.Graph.{Graph, roles_of, roles_held, graph_verdict}
 use Rattle.moves.specs.declared.Marking.{Marking}
 use Rattle.moves.specs.declared.Entry.{Entry}
 use Rattle.moves.specs.declared.Refusal.{Refusal}
-use Rattle.moves.specs.declared.Verdict.{Verdict}
-use Rattle.moves.specs.declared.Asked.{Asked}
-use Rattle.moves.specs.declared.Move.{Move}
+use Rattle.moves.specs.First.{Verdict}
+use Rattle.moves.specs.Move.{Move}
 use Rattle.moves.specs.First.{Line, first}
 use Rattle.rules.specs.Answers.{row_of, entry_known, entry_lines, after_entry, entry_asked, refusal_in, entry_move}
-use Rattle.moves.specs.Move.{is_included, waits_for, asked_of, given_back, move_of}
+use Rattle.moves.specs.Move.{is_included, waits_for, given_back, move_of}
 use Rattle.tables.specs.Laws.{Counted}
 use Rattle.rules.specs.Laws.{clear_counts}
 use Rattle.rules.specs.Entries.{Named, known_named}
 use Rattle.rules.specs.Sound.{clear_sound}
+use Rattle.std.specs.Prelude.{Ok, Err}
+use Rattle.moves.specs.Move.{denied}
 
 -- no line of the table holds
 unfoldable pub nothing_in : List Line → Bool
@@ -34,49 +35,49 @@ is_allowed g m e = nothing_in (entry_lines g m e)
 
 -- ---- what that says of asking and taking
 
-nothing_clear : (a : List Line) → nothing_in a ≡ true → first a ≡ Verdict.Clear
+nothing_clear : (a : List Line) → nothing_in a ≡ true → first a ≡ Ok tt
 unfolding nothing_in first
 nothing_clear [] e = refl
 nothing_clear (l ∷ a) e =
-    ap (λ (b : Bool). cond b (Verdict.Refused l.0) (first a)) (not-true l.1 (and_left (not l.1) (nothing_in a) e))
+    ap (λ (b : Bool). cond b (Err l.0) (first a)) (not-true l.1 (and_left (not l.1) (nothing_in a) e))
     ∙ nothing_clear a (and_right (not l.1) (nothing_in a) e)
 
-something_refused : (a : List Line) → nothing_in a ≡ false → (r : Refusal) × (first a ≡ Verdict.Refused r)
+something_refused : (a : List Line) → nothing_in a ≡ false → (r : Refusal) × (first a ≡ Err r)
 unfolding nothing_in first
 something_refused [] e = absurd (true≢false e)
 something_refused (l ∷ a) e = go l.1 refl (something_refused a)
   where
-    go : (b : Bool) → l.1 ≡ b → (nothing_in a ≡ false → (r : Refusal) × (first a ≡ Verdict.Refused r)) → (r : Refusal)
-        × (cond l.1 (Verdict.Refused l.0) (first a) ≡ Verdict.Refused r)
-    go true p rest = (l.0, ap (λ (b : Bool). cond b (Verdict.Refused l.0) (first a)) p)
+    go : (b : Bool) → l.1 ≡ b → (nothing_in a ≡ false → (r : Refusal) × (first a ≡ Err r)) → (r : Refusal)
+        × (cond l.1 (Err l.0) (first a) ≡ Err r)
+    go true p rest = (l.0, ap (λ (b : Bool). cond b (Err l.0) (first a)) p)
     go false p rest =
         let later = rest (ap (λ (b : Bool). not b && nothing_in a) (sym p) ∙ e) in
-        (later.0, ap (λ (b : Bool). cond b (Verdict.Refused l.0) (first a)) p ∙ later.1)
+        (later.0, ap (λ (b : Bool). cond b (Err l.0) (first a)) p ∙ later.1)
 
 -- the quick test and `ask` say the same
-pub quick_allowed : (g : Graph) (m : Marking) (e : Entry) → is_allowed g m e ≡ true → entry_asked g m e ≡ Asked.Allowed
-unfolding entry_asked asked_of
-quick_allowed g m e ok = ap asked_of (nothing_clear (entry_lines g m e) ok)
+pub quick_allowed : (g : Graph) (m : Marking) (e : Entry) → is_allowed g m e ≡ true → entry_asked g m e ≡ Ok tt
+unfolding entry_asked
+quick_allowed g m e ok = (nothing_clear (entry_lines g m e) ok)
 
-pub quick_refused : (g : Graph) (m : Marking) (e : Entry) → is_allowed g m e ≡ false → (r : Refusal) × (entry_asked g m e ≡ Asked.Refused r)
-unfolding entry_asked asked_of
+pub quick_refused : (g : Graph) (m : Marking) (e : Entry) → is_allowed g m e ≡ false → (r : Refusal) × (entry_asked g m e ≡ Err r)
+unfolding entry_asked
 quick_refused g m e out =
     let f = something_refused (entry_lines g m e) out in
-    (f.0, ap asked_of f.1)
+    (f.0, f.1)
 
 -- so what it allows is taken
-pub allowed_moved : (g : Graph) (m : Marking) (e : Entry) → is_allowed g m e ≡ true → entry_move g m e ≡ Move.Moved (after_entry g m e)
+pub allowed_moved : (g : Graph) (m : Marking) (e : Entry) → is_allowed g m e ≡ true → entry_move g m e ≡ Ok (after_entry g m e)
 unfolding entry_move move_of
-allowed_moved g m e ok = ap (λ (o : Asked). move_of o m (after_entry g m e)) (quick_allowed g m e ok)
+allowed_moved g m e ok = ap (λ (o : Verdict). move_of o m (after_entry g m e)) (quick_allowed g m e ok)
 
 -- and what it does not is refused, by the refusal that `ask` gives
 pub refused_moved : (g : Graph) (m : Marking) (e : Entry) → is_allowed g m e ≡ false
-    → (back : Marking) × (entry_move g m e ≡ Move.Refused back (refusal_in (entry_asked g m e)))
+    → (back : Marking) × (entry_move g m e ≡ Err (denied back (refusal_in (entry_asked g m e))))
 unfolding entry_move move_of refusal_in
 refused_moved g m e out =
     let f = quick_refused g m e out in
     let back : Marking = given_back m f.0 in
-    (back, ap (λ (o : Asked). move_of o m (after_entry g m e)) f.1 ∙ ap (Move.Refused back) (sym (ap refusal_in f.1)))
+    (back, ap (λ (o : Verdict). move_of o m (after_entry g m e)) f.1 ∙ ap ((λ x. Err (denied back x))) (sym (ap refusal_in f.1)))
 
 -- ---- its five tests
 
@@ -111,7 +112,7 @@ allowed_named g m e ok = known_named g e (and_left (entry_known g e) _ (sym (all
 -- ---- the tests of a run, on a graph with nothing against it
 
 -- a person or a role from 16 on is unknown
-pub unknown_person_role : (g : Graph) (m : Marking) (e : Entry) → graph_verdict g ≡ Verdict.Clear → 16 ≤ bit_or e.person e.role
+pub unknown_person_role : (g : Graph) (m : Marking) (e : Entry) → graph_verdict g ≡ Ok tt → 16 ≤ bit_or e.person e.role
     → is_allowed g m e ≡ false
 unknown_person_role g m e clear h =
     is_not (is_allowed g m e) (λ ok.
@@ -148,7 +149,7 @@ not_included g m e out =
     true≢false (sym (and_left (is_included m e) _ (and_right s _ (and_right p _ rest))) ∙ out))
 
 -- so an entry of a known step whose role is held and had names what there is, and only the marking is left to ask
-pub role_left : (g : Graph) (m : Marking) (e : Entry) → graph_verdict g ≡ Verdict.Clear → e.step.0 < g.steps
+pub role_left : (g : Graph) (m : Marking) (e : Entry) → graph_verdict g ≡ Ok tt → e.step.0 < g.steps
     → has (meet (roles_held g e.person) (roles_of g e.step.0)) e.role ≡ true → is_included m e ≡ true
     → is_allowed g m e ≡ none_waits g m e
 role_left g m e clear known both included =

@@ -8,19 +8,23 @@ use Rattle.moves.specs.declared.Marking.{Marking}
 use Rattle.moves.specs.declared.Entry.{Entry}
 use Rattle.moves.specs.declared.Refusal.{Refusal}
 use Rattle.moves.specs.declared.Refusal.TheVariants.{Length, Outside}
-use Rattle.moves.specs.declared.Verdict.{Verdict}
-use Rattle.moves.specs.declared.Move.{Move}
+use Rattle.moves.specs.First.{Verdict}
+use Rattle.moves.specs.Move.{Move}
 use Rattle.moves.specs.First.{first}
 use Rattle.rules.specs.Answers.{entry_move, marking_lines}
 use Rattle.moves.specs.Move.{entry_of, marking_fits, no_marking}
 use Rattle.moves.specs.Given.{first_clear, first_refused}
-use Rattle.journal.specs.declared.Ran.{Ran}
+use Rattle.journal.specs.Ran.{Ran}
 use Rattle.journal.specs.Journal.{entries, entry_at, length_fits}
 use Rattle.journal.specs.Run.{go_on, length_lines, ran_of, the_run, run_from}
 use Rattle.journal.specs.Inner.{run_on, run_from_lem}
-use Rattle.journal.specs.declared.Walked.{Walked}
+use Rattle.journal.specs.Ran.{Walked}
 use Rattle.journal.specs.Walk.{stays, hand_out, stride_of, stride_at}
 use Rattle.moves.specs.Inside.{fits_inside}
+use Rattle.std.specs.Prelude.{Ok, Err, Some, None}
+use Rattle.moves.specs.Move.{denied}
+use Rattle.journal.specs.Ran.{ended}
+use Rattle.journal.specs.Ran.{stopped}
 
 -- ---- lengths that fit
 
@@ -108,14 +112,14 @@ entries_drop (p ∷ s ∷ r ∷ rest) (suc k) h =
 
 -- entry k of the journal is not allowed: the run stops there
 pub run_refused : (g : Graph) (m back : Marking) (r : Refusal) (j : List ℕ) (k : ℕ) → 3 * k + 3 ≤ length j
-    → entry_move g m (entry_at j k) ≡ Move.Refused back r
-    → run_on g m k (entries (drop (3 * k) j)) ≡ Ran.Stopped k m r
+    → entry_move g m (entry_at j k) ≡ Err (denied back r)
+    → run_on g m k (entries (drop (3 * k) j)) ≡ Err (stopped k m r)
 unfolding run_on go_on
 run_refused g m back r j k h e =
     ap (run_on g m k) (entries_from j k h) ∙ ap (λ (o : Move). go_on k m o (λ n. run_on g n (k + 1) (entries (drop (3 * k + 3) j)))) e
 
 -- it is: the run goes on behind it
-pub run_moved : (g : Graph) (m next : Marking) (j : List ℕ) (k : ℕ) → 3 * k + 3 ≤ length j → entry_move g m (entry_at j k) ≡ Move.Moved next
+pub run_moved : (g : Graph) (m next : Marking) (j : List ℕ) (k : ℕ) → 3 * k + 3 ≤ length j → entry_move g m (entry_at j k) ≡ Ok next
     → run_on g m k (entries (drop (3 * k) j)) ≡ run_on g next (k + 1) (entries (drop (3 * (k + 1)) j))
 unfolding run_on go_on
 run_moved g m next j k h e =
@@ -125,44 +129,44 @@ run_moved g m next j k h e =
     ∙ ap (λ (x : ℕ). run_on g next (k + 1) (entries (drop x j))) past
 
 -- there is none: the run has ended
-pub run_ended : (g : Graph) (m : Marking) (j : List ℕ) (k : ℕ) → length j ≤ 3 * k → run_on g m k (entries (drop (3 * k) j)) ≡ Ran.Ended m k
+pub run_ended : (g : Graph) (m : Marking) (j : List ℕ) (k : ℕ) → length j ≤ 3 * k → run_on g m k (entries (drop (3 * k) j)) ≡ Ok (ended m k)
 unfolding run_on entries
 run_ended g m j k h = ap (λ (t : List ℕ). run_on g m k (entries t)) (drop_of_length-le j h)
 
 -- ---- a run, by what is found of the graph, the journal and the marking
 
-pub run_graph : (g : Graph) (m : Marking) (j : List ℕ) (r : Refusal) → graph_verdict g ≡ Verdict.Refused r
-    → the_run g m j ≡ Ran.Stopped 0 no_marking r
+pub run_graph : (g : Graph) (m : Marking) (j : List ℕ) (r : Refusal) → graph_verdict g ≡ Err r
+    → the_run g m j ≡ Err (stopped 0 no_marking r)
 unfolding the_run ran_of
 run_graph g m j r e =
     ap (λ (v : Verdict). ran_of v (run_from g m 0 (entries j))) (first_refused (graph_lines g) (length_lines j ++ marking_lines g m) r e)
 
-pub run_length : (g : Graph) (m : Marking) (j : List ℕ) → graph_verdict g ≡ Verdict.Clear → length_fits j ≡ false
-    → the_run g m j ≡ Ran.Stopped 0 no_marking Length
+pub run_length : (g : Graph) (m : Marking) (j : List ℕ) → graph_verdict g ≡ Ok tt → length_fits j ≡ false
+    → the_run g m j ≡ Err (stopped 0 no_marking Length)
 unfolding the_run ran_of first
 run_length g m j e f =
     ap (λ (v : Verdict). ran_of v (run_from g m 0 (entries j))) (first_clear (graph_lines g) (length_lines j ++ marking_lines g m) e
-    ∙ ap (λ (b : Bool). cond (not b) (Verdict.Refused Length) (first (marking_lines g m))) f)
+    ∙ ap (λ (b : Bool). cond (not b) (Err Length) (first (marking_lines g m))) f)
 
-pub run_outside : (g : Graph) (m : Marking) (j : List ℕ) → graph_verdict g ≡ Verdict.Clear → length_fits j ≡ true
+pub run_outside : (g : Graph) (m : Marking) (j : List ℕ) → graph_verdict g ≡ Ok tt → length_fits j ≡ true
     → marking_fits g.steps m ≡ false
-    → the_run g m j ≡ Ran.Stopped 0 no_marking Outside
+    → the_run g m j ≡ Err (stopped 0 no_marking Outside)
 unfolding the_run ran_of first
 run_outside g m j e f o =
     ap (λ (v : Verdict). ran_of v (run_from g m 0 (entries j))) (first_clear (graph_lines g) (length_lines j ++ marking_lines g m) e
-    ∙ ap (λ (b : Bool). cond (not b) (Verdict.Refused Length) (first (marking_lines g m))) f
-    ∙ ap (λ (b : Bool). cond (not b) (Verdict.Refused Outside) Verdict.Clear) o)
+    ∙ ap (λ (b : Bool). cond (not b) (Err Length) (first (marking_lines g m))) f
+    ∙ ap (λ (b : Bool). cond (not b) (Err Outside) (Ok tt)) o)
 
-pub run_clear : (g : Graph) (m : Marking) (j : List ℕ) → graph_verdict g ≡ Verdict.Clear → length_fits j ≡ true
+pub run_clear : (g : Graph) (m : Marking) (j : List ℕ) → graph_verdict g ≡ Ok tt → length_fits j ≡ true
     → marking_fits g.steps m ≡ true
     → the_run g m j ≡ run_from g m 0 (entries j)
 unfolding the_run ran_of first
 run_clear g m j e f i =
     ap (λ (v : Verdict). ran_of v (run_from g m 0 (entries j))) (first_clear (graph_lines g) (length_lines j ++ marking_lines g m) e
-    ∙ ap (λ (b : Bool). cond (not b) (Verdict.Refused Length) (first (marking_lines g m))) f
-    ∙ ap (λ (b : Bool). cond (not b) (Verdict.Refused Outside) Verdict.Clear) i)
+    ∙ ap (λ (b : Bool). cond (not b) (Err Length) (first (marking_lines g m))) f
+    ∙ ap (λ (b : Bool). cond (not b) (Err Outside) (Ok tt)) i)
 
-pub run_inside : (g : Graph) (m : Marking) (j : List ℕ) → graph_verdict g ≡ Verdict.Clear → length_fits j ≡ true
+pub run_inside : (g : Graph) (m : Marking) (j : List ℕ) → graph_verdict g ≡ Ok tt → length_fits j ≡ true
     → marking_fits g.steps m ≡ true
     → the_run g m j ≡ run_on g m 0 (entries j)
 run_inside g m j e f i = run_clear g m j e f i ∙ run_from_lem g m 0 (entries j) e (fits_inside g.steps m i)
@@ -171,20 +175,20 @@ run_inside g m j e f i = run_clear g m j e f i ∙ run_from_lem g m 0 (entries j
 
 pub walk_fits : (j : List ℕ) (k : ℕ) → length_fits j ≡ true → stride_at j k ≡ hand_out k (drop k (entries j))
 unfolding stride_at stride_of first
-walk_fits j k f = ap (λ (b : Bool). stride_of k (cond (not b) (Verdict.Refused Length) Verdict.Clear) (hand_out k (drop k (entries j)))) f
+walk_fits j k f = ap (λ (b : Bool). stride_of k (cond (not b) (Err Length) (Ok tt)) (hand_out k (drop k (entries j)))) f
 
-pub walk_length : (j : List ℕ) (k : ℕ) → length_fits j ≡ false → stride_at j k ≡ stays k (Walked.Refused Length)
+pub walk_length : (j : List ℕ) (k : ℕ) → length_fits j ≡ false → stride_at j k ≡ stays k (Err Length)
 unfolding stride_at stride_of first
-walk_length j k f = ap (λ (b : Bool). stride_of k (cond (not b) (Verdict.Refused Length) Verdict.Clear) (hand_out k (drop k (entries j)))) f
+walk_length j k f = ap (λ (b : Bool). stride_of k (cond (not b) (Err Length) (Ok tt)) (hand_out k (drop k (entries j)))) f
 
 pub walk_entry : (j : List ℕ) (k : ℕ) → length_fits j ≡ true → 3 * k + 3 ≤ length j
-    → stride_at j k ≡ record { said = Walked.At (entry_at j k); place = k + 1 }
+    → stride_at j k ≡ record { said = Ok (Some (entry_at j k)); place = k + 1 }
 unfolding hand_out
 walk_entry j k f h =
     let room : 3 * k ≤ length j = omega arith in
     walk_fits j k f ∙ ap (hand_out k) (sym (entries_drop j k room) ∙ entries_from j k h)
 
-pub walk_end : (j : List ℕ) (k : ℕ) → length_fits j ≡ true → length j ≤ 3 * k → stride_at j k ≡ stays k Walked.End
+pub walk_end : (j : List ℕ) (k : ℕ) → length_fits j ≡ true → length j ≤ 3 * k → stride_at j k ≡ stays k (Ok None)
 unfolding hand_out
 walk_end j k f h =
     let count : length (entries j) * 3 ≡ length j = entries_length j (fits_threes j f) in

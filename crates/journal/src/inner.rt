@@ -38,14 +38,14 @@ pub fn step_at(j: &[u8], place: usize) -> Stride
     ensures { result ≡ stride_at j.now place }
 {
     if !length_fits(j) {
-        return stay(place, Walked::Refused(Refusal::Length));
+        return stay(place, Err(Refusal::Length));
     }
     if place < j.len() / 3 {
         let next = place + 1;
         return Stride {
-            said: Walked::At(entry_at(j, place)),
+            said: Ok(Some(entry_at(j, place))),
             place: next,
         };
     }
-    stay(place, Walked::End)
+    stay(place, Ok(None))
 }

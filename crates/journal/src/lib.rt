@@ -45,12 +45,12 @@ pub struct Stride {
 }
 
 // Run a journal from a marking. Refusals 2, 4, 6, 7, 8, then 11 to 15 of the earliest refused entry.
-pub fn run<'a, 'b>(g: &'a Job, m: Marking, j: &'b [u8]) -> Ran
+pub fn run<'a, 'b>(g: &'a Job, m: Marking, j: &'b [u8]) -> Result<Ended, Stopped>
     ensures { result ≡ the_run (graph_of g.now) m j.now }
 {
     let v = rules::check(g);
-    if let Verdict::Refused(r) = v {
-        return Ran::Stopped(0, NONE, r);
+    if let Err(r) = v {
+        return Err(Stopped { index: 0, marking: NONE, refusal: r });
     }
     if !length_fits(j) {
         return Ran::Stopped(0, NONE, Refusal::Length);
@@ -69,7 +69,7 @@ pub fn new<'a>(journal: &'a [u8]) -> Walk<'a>
 }
 
 // What the walk says; its place moves behind the entry that it hands out, and stays put otherwise. Refusal 7.
-pub fn next<'s, 'a>(w: &'s mut Walk<'a>) -> Walked
+pub fn next<'s, 'a>(w: &'s mut Walk<'a>) -> Result<Option<Entry>, Refusal>
     ensures { (result ≡ (stride_at w.old.journal.now w.old.place).said)
         × (w.new.journal ≡ w.old.journal)
         × (w.new.place ≡ (stride_at w.old.journal.now w.old.place).place) }

@@ -1,6 +1,5 @@
 // A run on a graph with nothing against it: an allowed entry meets five tests, and which refusal another one meets is asked only then.
 ghost use Rattle.std.specs.Prelude.{◌≡◌, ◌%◌, ◌≤◌, length};
-ghost use Rattle.moves.specs.declared.Verdict.{Verdict};
 ghost use Rattle.rules.specs.Graph.{graph_of, graph_verdict};
 ghost use Rattle.journal.specs.Journal.{entries};
 ghost use Rattle.journal.specs.Inner.{run_on};
@@ -86,7 +85,7 @@ pub const SINGLES: [u64; 64] = [
 // Is the entry allowed? A person or role below 16 that is not there has an empty row, so these counts are not asked. Those of steps
 // are: a step that is not there has action 0, and that may have roles.
 pub fn allowed<'a, 'b>(singles: &'b [u64; 64], g: &'a Job, m: Marking, e: Entry) -> bool
-    requires { (graph_verdict (graph_of g.now) ≡ Verdict.Clear) × Singles singles.now }
+    requires { (graph_verdict (graph_of g.now) ≡ Ok tt) × Singles singles.now }
     ensures { result ≡ is_allowed (graph_of g.now) m e }
 {
     let p = e.person;
@@ -110,8 +109,8 @@ pub fn allowed<'a, 'b>(singles: &'b [u64; 64], g: &'a Job, m: Marking, e: Entry)
 }
 
 // The entries, on a graph and a journal with nothing against them. Refusals 11 to 15.
-pub fn run_entries<'a, 'b>(g: &'a Job, m: Marking, j: &'b [u8]) -> Ran
-    requires { (graph_verdict (graph_of g.now) ≡ Verdict.Clear) × (length j.now % 3 ≡ 0) × (length j.now ≤ 65535) }
+pub fn run_entries<'a, 'b>(g: &'a Job, m: Marking, j: &'b [u8]) -> Result<Ended, Stopped>
+    requires { (graph_verdict (graph_of g.now) ≡ Ok tt) × (length j.now % 3 ≡ 0) × (length j.now ≤ 65535) }
     ensures { result ≡ run_on (graph_of g.now) m 0 (entries j.now) }
 {
     let singles = SINGLES;
@@ -128,5 +127,5 @@ pub fn run_entries<'a, 'b>(g: &'a Job, m: Marking, j: &'b [u8]) -> Ran
         k += 1;
     }
     let number = count as u16;
-    Ran::Ended(at, number)
+    Ok(Ended { marking: at, entries: number })
 }

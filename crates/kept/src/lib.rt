@@ -21,19 +21,19 @@ pub fn keeping(m: Marking, g: &Job, e: Entry) -> Kept
 {
     let o = rules::take(g, m, e);
     match o {
-        Move::Moved(next) => Kept {
-            answer: Move::Moved(next),
+        Ok(next) => Kept {
+            answer: Ok(next),
             marking: next,
         },
-        Move::Refused(back, r) => Kept {
-            answer: Move::Refused(back, r),
+        Err(Denied { marking: back, refusal: r }) => Kept {
+            answer: Err(Denied { marking: back, refusal: r }),
             marking: m,
         },
     }
 }
 
 // An entry on the kept marking, which is altered where it lies. Refusals 2, 4, 6, 8, 11 to 15.
-pub fn keep<'s, 'a>(m: &'s mut Marking, g: &'a Job, e: Entry) -> Move
+pub fn keep<'s, 'a>(m: &'s mut Marking, g: &'a Job, e: Entry) -> Result<Marking, Denied>
     ensures { (result ≡ (the_kept (graph_of g.now) m.old e).answer)
         × (m.new ≡ (the_kept (graph_of g.now) m.old e).marking) }
 {

@@ -10,12 +10,12 @@ use Rattle.moves.specs.declared.Marking.{Marking}
 use Rattle.moves.specs.declared.Entry.{Entry}
 use Rattle.moves.specs.declared.Step.{Step}
 use Rattle.moves.specs.declared.Refusal.{Refusal}
-use Rattle.moves.specs.declared.Verdict.{Verdict}
-use Rattle.moves.specs.declared.Move.{Move}
+use Rattle.moves.specs.First.{Verdict}
+use Rattle.moves.specs.Move.{Move}
 use Rattle.moves.specs.First.{first, number_of}
 use Rattle.moves.specs.Given.{ascends, clear_refused}
 use Rattle.journal.specs.Journal.{entries}
-use Rattle.laps.specs.declared.Lapped.{Lapped}
+use Rattle.laps.specs.Lapped.{Lapped}
 use Rattle.laps.specs.declared.Pass.{Pass}
 use Rattle.laps.specs.Endless.{marking_at, moved_at, TakenAt, DoneAt, ExcludedAt, RefusedAt, GoesOn, Accepting, Starving, Starves}
 use Rattle.laps.specs.Laps.{endless_run, index_at, pass_at, number_of_pass, lap_lines, Stops, LapAnswer}
@@ -23,12 +23,16 @@ use Rattle.laps.specs.Decision.{decision, lap_of, the_lap}
 use Rattle.laps.specs.Places.{never_later}
 use Rattle.laps.specs.Three.{IsRefused, IsAccepted, IsStarved, OneOfThree}
 use Rattle.laps.proofs.Right.{some, sound, inside, decision_right}
+use Rattle.std.specs.Prelude.{Ok, Err}
+use Rattle.moves.specs.Move.{denied}
+use Rattle.laps.specs.declared.Endless.{Endless}
+use Rattle.laps.specs.declared.Broken.{Broken}
 
 -- ---- any endless run
 
 module _ (g : Graph) (m : Marking) (e : ℕ → Entry) where
   -- an entry that is taken is not refused
-  taken_refused : {A : Type 0} (i : ℕ) (r : Refusal) → TakenAt g m e i → moved_at g m e i ≡ Move.Refused (marking_at g m e i) r → A
+  taken_refused : {A : Type 0} (i : ℕ) (r : Refusal) → TakenAt g m e i → moved_at g m e i ≡ Err (denied (marking_at g m e i) r) → A
   taken_refused i r p q = absurd (let z : ◌≡◌ {A = ℕ} 0 1 = cc in let w : ⊥ = omega arith in w)
 
   -- the first entry not allowed is one
@@ -40,12 +44,12 @@ module _ (g : Graph) (m : Marking) (e : ℕ → Entry) where
       go (no h) (yes k) = taken_refused j q (a.before j k) b.here
       go (no h) (no k) =
           let same : i ≡ j = omega arith in
-          let both : Move.Refused (marking_at g m e i) r ≡ Move.Refused (marking_at g m e j) q = sym a.here ∙ ap (moved_at g m e) same
+          let both : Err (denied (marking_at g m e i) r) ≡ Err (denied (marking_at g m e j) q) = sym a.here ∙ ap (moved_at g m e) same
           ∙ b.here in
           (same, cc)
 
-  one_starved : (s t : Step) → Starves g m e s.0 → Starves g m e t.0 → Lapped.Starved s ≡ Lapped.Starved t
-  one_starved s t a b = ap (λ (x : ℕ). Lapped.Starved (record { 0 = x })) (go (dec_lt s.0 t.0) (dec_lt t.0 s.0))
+  one_starved : (s t : Step) → Starves g m e s.0 → Starves g m e t.0 → Ok (Endless.Starved s) ≡ Ok (Endless.Starved t)
+  one_starved s t a b = ap (λ (x : ℕ). Ok (Endless.Starved (record { 0 = x }))) (go (dec_lt s.0 t.0) (dec_lt t.0 s.0))
     where
       go : Dec (s.0 < t.0) → Dec (t.0 < s.0) → s.0 ≡ t.0
       go (yes h) d = absurd (b.lowest s.0 h a.starving)
@@ -100,13 +104,13 @@ module _ (g : Graph) (m : Marking) (stem lap : List ℕ) where
   the_lap_right = go (first (lap_lines g m stem lap)) refl
     where
       go : (v : Verdict) → first (lap_lines g m stem lap) ≡ v → LapAnswer g m stem lap (lap_of v (decision g m S L))
-      go Verdict.Clear q = decision_right g m stem lap q
-      go (Verdict.Refused r) q = q
+      go (Ok _) q = decision_right g m stem lap q
+      go (Err r) q = q
 
   -- ---- there is only one answer
 
   one_stop : (k j : ℕ) (p q : Pass) (r t : Refusal) → Stops g m S L k p r → Stops g m S L j q t
-      → Lapped.Stopped k p r ≡ Lapped.Stopped j q t
+      → Err (Broken.Stopped k p r) ≡ Err (Broken.Stopped j q t)
   one_stop k j p q r t a b =
       let at = one_position g m e a.position b.position r t a.refused b.refused in
       let index : k ≡ j = a.index ∙ ap (index_at S L) at.0 ∙ sym b.index in
@@ -122,35 +126,35 @@ module _ (g : Graph) (m : Marking) (stem lap : List ℕ) where
   -- any two answers are equal
   pub one_answer : (r q : Lapped) → LapAnswer g m stem lap r → LapAnswer g m stem lap q → r ≡ q
   unfolding LapAnswer
-  one_answer (Lapped.Refused r) (Lapped.Refused q) a b = let both : Verdict.Refused r ≡ Verdict.Refused q = sym a ∙ b in cc
-  one_answer (Lapped.Refused r) (Lapped.Stopped k p q) a b = clear_refused _ r b.0 a
-  one_answer (Lapped.Refused r) Lapped.Accepted a b = clear_refused _ r b.0 a
-  one_answer (Lapped.Refused r) (Lapped.Starved s) a b = clear_refused _ r b.0 a
-  one_answer (Lapped.Stopped k p r) (Lapped.Refused q) a b = clear_refused _ q a.0 b
-  one_answer (Lapped.Stopped k p r) (Lapped.Stopped j q t) a b = one_stop k j p q r t a.1 b.1
-  one_answer (Lapped.Stopped k p r) Lapped.Accepted a b = on_or_stopped k p r b.1 a.1
-  one_answer (Lapped.Stopped k p r) (Lapped.Starved s) a b = on_or_stopped k p r b.1 a.1
-  one_answer Lapped.Accepted (Lapped.Refused q) a b = clear_refused _ q a.0 b
-  one_answer Lapped.Accepted (Lapped.Stopped k p r) a b = on_or_stopped k p r a.1 b.1
-  one_answer Lapped.Accepted Lapped.Accepted a b = refl
-  one_answer Lapped.Accepted (Lapped.Starved s) a b = absurd (accepting_starving g m e s.0 a.2 b.2.starving)
-  one_answer (Lapped.Starved s) (Lapped.Refused q) a b = clear_refused _ q a.0 b
-  one_answer (Lapped.Starved s) (Lapped.Stopped k p r) a b = on_or_stopped k p r a.1 b.1
-  one_answer (Lapped.Starved s) Lapped.Accepted a b = absurd (accepting_starving g m e s.0 b.2 a.2.starving)
-  one_answer (Lapped.Starved s) (Lapped.Starved t) a b = one_starved g m e s t a.2 b.2
+  one_answer (Err (Broken.Refused r)) (Err (Broken.Refused q)) a b = let both : Err r ≡ Err q = sym a ∙ b in cc
+  one_answer (Err (Broken.Refused r)) (Err (Broken.Stopped k p q)) a b = clear_refused _ r b.0 a
+  one_answer (Err (Broken.Refused r)) (Ok Endless.Accepted) a b = clear_refused _ r b.0 a
+  one_answer (Err (Broken.Refused r)) (Ok (Endless.Starved s)) a b = clear_refused _ r b.0 a
+  one_answer (Err (Broken.Stopped k p r)) (Err (Broken.Refused q)) a b = clear_refused _ q a.0 b
+  one_answer (Err (Broken.Stopped k p r)) (Err (Broken.Stopped j q t)) a b = one_stop k j p q r t a.1 b.1
+  one_answer (Err (Broken.Stopped k p r)) (Ok Endless.Accepted) a b = on_or_stopped k p r b.1 a.1
+  one_answer (Err (Broken.Stopped k p r)) (Ok (Endless.Starved s)) a b = on_or_stopped k p r b.1 a.1
+  one_answer (Ok Endless.Accepted) (Err (Broken.Refused q)) a b = clear_refused _ q a.0 b
+  one_answer (Ok Endless.Accepted) (Err (Broken.Stopped k p r)) a b = on_or_stopped k p r a.1 b.1
+  one_answer (Ok Endless.Accepted) (Ok Endless.Accepted) a b = refl
+  one_answer (Ok Endless.Accepted) (Ok (Endless.Starved s)) a b = absurd (accepting_starving g m e s.0 a.2 b.2.starving)
+  one_answer (Ok (Endless.Starved s)) (Err (Broken.Refused q)) a b = clear_refused _ q a.0 b
+  one_answer (Ok (Endless.Starved s)) (Err (Broken.Stopped k p r)) a b = on_or_stopped k p r a.1 b.1
+  one_answer (Ok (Endless.Starved s)) (Ok Endless.Accepted) a b = absurd (accepting_starving g m e s.0 b.2 a.2.starving)
+  one_answer (Ok (Endless.Starved s)) (Ok (Endless.Starved t)) a b = one_starved g m e s t a.2 b.2
 
   -- so it is what is computed
   pub answer_is : (r : Lapped) → LapAnswer g m stem lap r → r ≡ the_lap g m stem lap
   answer_is r a = one_answer r (the_lap g m stem lap) a the_lap_right
 
   -- "pass 3 never happens"
-  pub no_pass_3 : (k : ℕ) (r : Refusal) → LapAnswer g m stem lap (Lapped.Stopped k Pass.Later r) → ⊥
+  pub no_pass_3 : (k : ℕ) (r : Refusal) → LapAnswer g m stem lap (Err (Broken.Stopped k Pass.Later r)) → ⊥
   unfolding LapAnswer
   no_pass_3 k r a = never_later S L (some g m stem lap a.0) g m (sound g m stem lap a.0) (inside g m stem lap a.0) k r a.1
 
   -- ---- exactly one of refused, accepted, starved holds
 
-  pub one_of_three : first (lap_lines g m stem lap) ≡ Verdict.Clear → OneOfThree g m stem lap
+  pub one_of_three : first (lap_lines g m stem lap) ≡ Ok tt → OneOfThree g m stem lap
   unfolding LapAnswer
   one_of_three clear =
       record {
@@ -162,7 +166,7 @@ module _ (g : Graph) (m : Marking) (stem lap : List ℕ) where
     where
       go : (o : Lapped) → LapAnswer g m stem lap o
           → IsRefused g m stem lap ⊎ (IsAccepted g m stem lap ⊎ IsStarved g m stem lap)
-      go (Lapped.Refused r) a = clear_refused _ r clear a
-      go (Lapped.Stopped k p r) a = inl (k, p, r, a.1)
-      go Lapped.Accepted a = inr (inl (a.1, a.2))
-      go (Lapped.Starved s) a = inr (inr (a.1, (s.0, a.2.starving)))
+      go (Err (Broken.Refused r)) a = clear_refused _ r clear a
+      go (Err (Broken.Stopped k p r)) a = inl (k, p, r, a.1)
+      go (Ok Endless.Accepted) a = inr (inl (a.1, a.2))
+      go (Ok (Endless.Starved s)) a = inr (inr (a.1, (s.0, a.2.starving)))

@@ -14,7 +14,7 @@ use Rattle.rules.specs.Graph.{Graph, graph_lines, graph_verdict}
 use Rattle.rules.specs.Laws.{clear_counts}
 use Rattle.moves.specs.declared.Marking.{Marking}
 use Rattle.moves.specs.declared.Entry.{Entry}
-use Rattle.moves.specs.declared.Verdict.{Verdict}
+use Rattle.moves.specs.First.{Verdict}
 use Rattle.moves.specs.First.{first}
 use Rattle.rules.specs.Answers.{marking_lines}
 use Rattle.moves.specs.Move.{marking_fits}
@@ -22,9 +22,9 @@ use Rattle.moves.specs.Given.{clear_head, clear_tail, clear_front, clear_back}
 use Rattle.moves.specs.Inside.{Inside, fits_inside}
 use Rattle.journal.specs.Journal.{entries, length_fits}
 use Rattle.journal.specs.Laws.{fits_threes, entries_length}
-use Rattle.laps.specs.declared.Lapped.{Lapped}
+use Rattle.laps.specs.Lapped.{Lapped}
 use Rattle.laps.specs.declared.Pass.{Pass}
-use Rattle.laps.specs.declared.inner.Leg.{Leg}
+use Rattle.laps.specs.Decision.{Leg}
 use Rattle.laps.specs.Endless.{GoesOn, marking_at, DueAt}
 use Rattle.laps.specs.Inner.{verdict_at, Unbarred, inside_until, moves_at, refuses_at}
 use Rattle.laps.specs.Laps.{endless_run, index_at, pass_at, number_of_pass, lengths_lines, empty_lines, lap_lines, LapAnswer}
@@ -34,10 +34,14 @@ use Rattle.laps.specs.Repeats.{Decides}
 use Rattle.laps.specs.Places.{in_stem, in_lap, pass_first, pass_second, stem_stands, lap_stands, lap_stands_again, twice_for_ever}
 use Rattle.laps.specs.Places.{second_decides}
 use Rattle.laps.specs.Ways.{upon_ended, upon_stopped}
+use Rattle.std.specs.Prelude.{Ok}
+use Rattle.journal.specs.Ran.{stopped}
+use Rattle.laps.specs.Decision.{leg}
+use Rattle.laps.specs.declared.Endless.{Endless}
 
 -- ---- markings within the graph
 
-module _ (g : Graph) (m : Marking) (e : ℕ → Entry) (clear : graph_verdict g ≡ Verdict.Clear) (inside : Inside g.steps m) where
+module _ (g : Graph) (m : Marking) (e : ℕ → Entry) (clear : graph_verdict g ≡ Ok tt) (inside : Inside g.steps m) where
   -- a step that is due is one of 64
   due_known : Unbarred g m e → (i s : ℕ) → DueAt g m e i s → has (full 64) s ≡ true
   due_known on i s due = has_full 64 s ∙ lt-ltb s 64 (go (dec_lt s 64))
@@ -62,11 +66,11 @@ module _ (g : Graph) (m : Marking) (stem lap : List ℕ) where
   abbrev e : ℕ → Entry
   e i = endless_run S L i
 
-  module _ (clear : first (lap_lines g m stem lap) ≡ Verdict.Clear) where
-    pub sound : graph_verdict g ≡ Verdict.Clear
+  module _ (clear : first (lap_lines g m stem lap) ≡ Ok tt) where
+    pub sound : graph_verdict g ≡ Ok tt
     sound = (clear_front (graph_lines g) (lengths_lines stem lap ++ marking_lines g m ++ empty_lines lap) clear)
 
-    lines : first (lengths_lines stem lap ++ marking_lines g m ++ empty_lines lap) ≡ Verdict.Clear
+    lines : first (lengths_lines stem lap ++ marking_lines g m ++ empty_lines lap) ≡ Ok tt
     lines = clear_back (graph_lines g) (lengths_lines stem lap ++ marking_lines g m ++ empty_lines lap) clear
 
     pub inside : Inside g.steps m
@@ -93,12 +97,12 @@ module _ (g : Graph) (m : Marking) (stem lap : List ℕ) where
 
     -- every entry before position i is allowed
     abbrev Until : ℕ → Type 0
-    Until i = (j : ℕ) → j < i → verdict_at g m e j ≡ Verdict.Clear
+    Until i = (j : ℕ) → j < i → verdict_at g m e j ≡ Ok tt
 
     until_more : (i n w : ℕ) (leg : Leg) → Until i → Passed g m e i n w leg → Until (i + n)
     until_more i n w leg all p j h = go (dec_lt j i)
       where
-        go : Dec (j < i) → verdict_at g m e j ≡ Verdict.Clear
+        go : Dec (j < i) → verdict_at g m e j ≡ Ok tt
         go (yes l) = all j l
         go (no l) = p.allowed j (let z : i ≤ j = omega arith in z) h
 
@@ -126,7 +130,7 @@ module _ (g : Graph) (m : Marking) (stem lap : List ℕ) where
         before : Until (i + b.depth)
         before j h = go (dec_lt j i)
           where
-            go : Dec (j < i) → verdict_at g m e j ≡ Verdict.Clear
+            go : Dec (j < i) → verdict_at g m e j ≡ Ok tt
             go (yes l) = all j l
             go (no l) = b.before j (let z : i ≤ j = omega arith in z) h
 
@@ -149,7 +153,7 @@ module _ (g : Graph) (m : Marking) (stem lap : List ℕ) where
         decides : Decides g m e x
         decides = second_decides S L some g m (full 64) x kept (due_known g m e sound inside on)
 
-        go : (b : Bool) → empty x ≡ b → LapAnswer g m stem lap (cond b Lapped.Accepted (Lapped.Starved (record { 0 = lowest 64 x })))
+        go : (b : Bool) → empty x ≡ b → LapAnswer g m stem lap (cond b (Ok Endless.Accepted) (Ok (Endless.Starved (record { 0 = lowest 64 x }))))
         go true q = (clear, goes, decides.accepting (empty_members x q))
         go false q = (
           clear,

@@ -5,15 +5,17 @@ use Rattle.sets.specs.Sets.{single, meet, minus, empty, full, lowest}
 use Rattle.rules.specs.Graph.{Graph}
 use Rattle.moves.specs.declared.Marking.{Marking}
 use Rattle.moves.specs.declared.Entry.{Entry}
-use Rattle.moves.specs.declared.Verdict.{Verdict}
-use Rattle.moves.specs.declared.Move.{Move}
+use Rattle.moves.specs.First.{Verdict}
+use Rattle.moves.specs.Move.{Move}
 use Rattle.moves.specs.First.{first}
 use Rattle.rules.specs.Answers.{entry_move}
 use Rattle.journal.specs.Journal.{entries}
-use Rattle.laps.specs.declared.Lapped.{Lapped}
+use Rattle.laps.specs.Lapped.{Lapped}
 use Rattle.laps.specs.declared.Pass.{Pass}
-use Rattle.laps.specs.declared.inner.Leg.{Leg}
 use Rattle.laps.specs.Laps.{lap_lines}
+use Rattle.std.specs.Prelude.{Ok, Err}
+use Rattle.laps.specs.declared.Endless.{Endless}
+use Rattle.laps.specs.declared.Broken.{Broken}
 
 -- the steps of x that are due and included in m, less s
 abbrev pub still : ℕ → Marking → ℕ → ℕ
@@ -21,12 +23,12 @@ still x m s = minus (meet (meet m.due m.included) x) (single s)
 
 -- entry k in marking m: where it is allowed the leg goes on with the marking after, else it stops there
 unfoldable pub go_through : ℕ → Move → (Marking → Leg) → Leg
-go_through k (Move.Moved next) rest = rest next
-go_through k (Move.Refused back r) rest = Leg.Stopped k r
+go_through k (Ok next) rest = rest next
+go_through k (Err d) rest = Err (halt k d.refusal)
 
 -- through the entries from entry k on, in marking m, with x left so far
 unfoldable pub leg_on : Graph → Marking → ℕ → ℕ → List Entry → Leg
-leg_on g m x k [] = Leg.Ended m x
+leg_on g m x k [] = Ok (leg m x)
 leg_on g m x k (e ∷ rest) = go_through k (entry_move g m e) (λ next. leg_on g next (still x m e.step.0) (k + 1) rest)
 
 abbrev pub leg_of : Graph → Marking → List Entry → Leg
@@ -34,12 +36,12 @@ leg_of g m es = leg_on g m (full 64) 0 es
 
 -- a leg in pass p that ends: what follows. One that stops: the answer
 unfoldable pub upon : Leg → Pass → (Marking → ℕ → Lapped) → Lapped
-upon (Leg.Ended m x) p rest = rest m x
-upon (Leg.Stopped k r) p rest = Lapped.Stopped k p r
+upon (Ok e) p rest = rest e.marking e.left
+upon (Err d) p rest = Err (Broken.Stopped d.index p d.refusal)
 
 -- x stay due and included and are not done
 abbrev pub judged : ℕ → Lapped
-judged x = cond (empty x) Lapped.Accepted (Lapped.Starved (record { 0 = lowest 64 x }))
+judged x = cond (empty x) (Ok Endless.Accepted) (Ok (Endless.Starved (record { 0 = lowest 64 x })))
 
 unfoldable pub second_lap : Graph → Marking → List Entry → Lapped
 second_lap g m lap = upon (leg_of g m lap) Pass.Second (λ end x. judged x)
@@ -52,8 +54,8 @@ decision g m stem lap = upon (leg_of g m stem) Pass.Stem (λ end x. first_lap g 
 
 -- before any entry is looked at, the table
 unfoldable pub lap_of : Verdict → Lapped → Lapped
-lap_of Verdict.Clear o = o
-lap_of (Verdict.Refused r) o = Lapped.Refused r
+lap_of (Ok _) o = o
+lap_of (Err r) o = Err (Broken.Refused r)
 
 -- any stem and lap on anything
 unfoldable pub the_lap : Graph → Marking → List ℕ → List ℕ → Lapped

@@ -5,9 +5,11 @@ use Rattle.rules.specs.Graph.{Graph}
 use Rattle.moves.specs.declared.Marking.{Marking}
 use Rattle.moves.specs.declared.Entry.{Entry}
 use Rattle.moves.specs.declared.Refusal.{Refusal}
-use Rattle.moves.specs.declared.Move.{Move}
+use Rattle.moves.specs.Move.{Move}
 use Rattle.rules.specs.Answers.{row_of, the_move}
 use Rattle.moves.specs.Move.{after}
+use Rattle.std.specs.Prelude.{Ok, Err}
+use Rattle.moves.specs.Move.{denied}
 
 module _ (g : Graph) (m : Marking) (e : ℕ → Entry) where
   -- the step done at position i
@@ -41,12 +43,12 @@ module _ (g : Graph) (m : Marking) (e : ℕ → Entry) where
 
   -- the entry at i is taken
   abbrev pub TakenAt : ℕ → Type 0
-  TakenAt i = moved_at i ≡ Move.Moved (marking_at (suc i))
+  TakenAt i = moved_at i ≡ Ok (marking_at (suc i))
 
   -- the entry at i is the first that is not allowed, with refusal r
   pub record RefusedAt (i : ℕ) (r : Refusal) : Type 0 where
     pub before : (j : ℕ) → j < i → TakenAt j
-    pub here : moved_at i ≡ Move.Refused (marking_at i) r
+    pub here : moved_at i ≡ Err (denied (marking_at i) r)
 
   -- every entry is allowed
   abbrev pub GoesOn : Type 0

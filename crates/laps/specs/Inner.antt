@@ -9,10 +9,10 @@ use Rattle.std.proofs.lemmas.Bool.{not-false}
 use Rattle.moves.specs.declared.Marking.{Marking}
 use Rattle.moves.specs.declared.Entry.{Entry}
 use Rattle.moves.specs.declared.Refusal.{Refusal}
-use Rattle.moves.specs.declared.Verdict.{Verdict}
-use Rattle.moves.specs.declared.Move.{Move}
+use Rattle.moves.specs.First.{Verdict}
+use Rattle.moves.specs.Move.{Move}
 use Rattle.moves.specs.First.{first, number_of}
-use Rattle.moves.specs.Move.{asked_of, move_of, no_marking}
+use Rattle.moves.specs.Move.{move_of, no_marking}
 use Rattle.moves.specs.Given.{ascends, first_above, clear_head, clear_back}
 use Rattle.moves.specs.Inside.{Inside, inside_fits}
 use Rattle.rules.specs.Graph.{Graph, graph_lines, graph_verdict}
@@ -21,6 +21,8 @@ use Rattle.rules.specs.Laws.{move_inside}
 use Rattle.rules.specs.Entries.{moved_clear, known_named}
 use Rattle.rules.specs.Sound.{clear_sound, after_inside}
 use Rattle.laps.specs.Endless.{step_at, marking_at, moved_at, TakenAt}
+use Rattle.std.specs.Prelude.{Ok, Err}
+use Rattle.moves.specs.Move.{denied}
 
 module _ (g : Graph) (m : Marking) (e : ℕ → Entry) where
   -- what is against the entry at i, read in the marking at i: 11 to 15
@@ -29,32 +31,32 @@ module _ (g : Graph) (m : Marking) (e : ℕ → Entry) where
 
   -- nothing is against any entry
   abbrev pub Unbarred : Type 0
-  Unbarred = (i : ℕ) → verdict_at i ≡ Verdict.Clear
+  Unbarred = (i : ℕ) → verdict_at i ≡ Ok tt
 
   -- nothing is against any entry before position i
   abbrev pub UnbarredUntil : ℕ → Type 0
-  UnbarredUntil i = (j : ℕ) → j < i → verdict_at j ≡ Verdict.Clear
+  UnbarredUntil i = (j : ℕ) → j < i → verdict_at j ≡ Ok tt
 
-  run_moves : (i : ℕ) → verdict_at i ≡ Verdict.Clear → entry_move g (marking_at g m e i) (e i) ≡ Move.Moved (marking_at g m e (suc i))
-  unfolding entry_move entry_asked asked_of move_of marking_at
-  run_moves i q = ap (λ (v : Verdict). move_of (asked_of v) (marking_at g m e i) (marking_at g m e (suc i))) q
+  run_moves : (i : ℕ) → verdict_at i ≡ Ok tt → entry_move g (marking_at g m e i) (e i) ≡ Ok (marking_at g m e (suc i))
+  unfolding entry_move entry_asked move_of marking_at
+  run_moves i q = ap (λ (v : Verdict). move_of v (marking_at g m e i) (marking_at g m e (suc i))) q
 
-  run_refuses : (i : ℕ) (r : Refusal) → verdict_at i ≡ Verdict.Refused r
-      → entry_move g (marking_at g m e i) (e i) ≡ Move.Refused (marking_at g m e i) r
-  unfolding entry_move entry_asked asked_of move_of marking_at ascends number_of
+  run_refuses : (i : ℕ) (r : Refusal) → verdict_at i ≡ Err r
+      → entry_move g (marking_at g m e i) (e i) ≡ Err (denied (marking_at g m e i) r)
+  unfolding entry_move entry_asked move_of marking_at ascends number_of
   run_refuses i r q =
-      ap (λ (v : Verdict). move_of (asked_of v) (marking_at g m e i) (marking_at g m e (suc i))) q
-      ∙ ap (λ (b : Bool). Move.Refused (cond b (marking_at g m e i) no_marking) r)
+      ap (λ (v : Verdict). move_of v (marking_at g m e i) (marking_at g m e (suc i))) q
+      ∙ ap (λ (b : Bool). Err (denied (cond b (marking_at g m e i) no_marking) r))
       (le-leb 11 (number_of r) (let h : 10 < number_of r = first_above 10 (entry_lines g (marking_at g m e i) (e i)) r refl q in omega arith))
 
   -- an entry that is taken has nothing against it
-  pub taken_clear : (i : ℕ) → TakenAt g m e i → verdict_at i ≡ Verdict.Clear
+  pub taken_clear : (i : ℕ) → TakenAt g m e i → verdict_at i ≡ Ok tt
   taken_clear i q =
       let at : Marking = marking_at g m e i in
       clear_back (marking_lines g at) (entry_lines g at (e i))
       (clear_back (graph_lines g) (marking_lines g at ++ entry_lines g at (e i)) (moved_clear g at (marking_at g m e (suc i)) (e i) q))
 
-  module _ (clear : graph_verdict g ≡ Verdict.Clear) (inside : Inside g.steps m) where
+  module _ (clear : graph_verdict g ≡ Ok tt) (inside : Inside g.steps m) where
     pub inside_until : (i : ℕ) → UnbarredUntil i → Inside g.steps (marking_at g m e i)
     unfolding marking_at
     inside_until zero all = inside
@@ -66,9 +68,9 @@ module _ (g : Graph) (m : Marking) (e : ℕ → Entry) where
     by_entry : (i : ℕ) → UnbarredUntil i → moved_at g m e i ≡ entry_move g (marking_at g m e i) (e i)
     by_entry i all = move_inside g (marking_at g m e i) (e i) clear (inside_fits g.steps (marking_at g m e i) (inside_until i all))
 
-    pub moves_at : (i : ℕ) → UnbarredUntil i → verdict_at i ≡ Verdict.Clear → TakenAt g m e i
+    pub moves_at : (i : ℕ) → UnbarredUntil i → verdict_at i ≡ Ok tt → TakenAt g m e i
     moves_at i all q = by_entry i all ∙ run_moves i q
 
-    pub refuses_at : (i : ℕ) (r : Refusal) → UnbarredUntil i → verdict_at i ≡ Verdict.Refused r
-        → moved_at g m e i ≡ Move.Refused (marking_at g m e i) r
+    pub refuses_at : (i : ℕ) (r : Refusal) → UnbarredUntil i → verdict_at i ≡ Err r
+        → moved_at g m e i ≡ Err (denied (marking_at g m e i) r)
     refuses_at i r all q = by_entry i all ∙ run_refuses i r q

@@ -6,13 +6,16 @@ use Rattle.moves.specs.declared.Marking.{Marking}
 use Rattle.moves.specs.declared.Entry.{Entry}
 use Rattle.moves.specs.declared.Refusal.{Refusal}
 use Rattle.moves.specs.declared.Refusal.TheVariants.{Length, EmptyLap}
-use Rattle.moves.specs.declared.Verdict.{Verdict}
+use Rattle.moves.specs.First.{Verdict}
 use Rattle.moves.specs.First.{Line, first, number_of, waiting_of}
 use Rattle.rules.specs.Answers.{marking_lines}
 use Rattle.journal.specs.Journal.{entries, length_fits}
-use Rattle.laps.specs.declared.Lapped.{Lapped}
+use Rattle.laps.specs.Lapped.{Lapped}
 use Rattle.laps.specs.declared.Pass.{Pass}
 use Rattle.laps.specs.Endless.{RefusedAt, GoesOn, Accepting, Starves}
+use Rattle.std.specs.Prelude.{Ok, Err}
+use Rattle.laps.specs.declared.Endless.{Endless}
+use Rattle.laps.specs.declared.Broken.{Broken}
 
 -- ---- the run
 
@@ -41,38 +44,38 @@ number_of_pass Pass.Later = 3
 
 -- 0 where the run goes on for ever
 unfoldable pub number_of_lap : Lapped → ℕ
-number_of_lap Lapped.Accepted = 0
-number_of_lap (Lapped.Starved s) = 0
-number_of_lap (Lapped.Refused r) = number_of r
-number_of_lap (Lapped.Stopped k p r) = number_of r
+number_of_lap (Ok Endless.Accepted) = 0
+number_of_lap (Ok (Endless.Starved s)) = 0
+number_of_lap (Err (Broken.Refused r)) = number_of r
+number_of_lap (Err (Broken.Stopped k p r)) = number_of r
 
 -- with 15 the steps that are waited for
 unfoldable pub waiting_of_lap : Lapped → ℕ
-waiting_of_lap Lapped.Accepted = 0
-waiting_of_lap (Lapped.Starved s) = 0
-waiting_of_lap (Lapped.Refused r) = waiting_of r
-waiting_of_lap (Lapped.Stopped k p r) = waiting_of r
+waiting_of_lap (Ok Endless.Accepted) = 0
+waiting_of_lap (Ok (Endless.Starved s)) = 0
+waiting_of_lap (Err (Broken.Refused r)) = waiting_of r
+waiting_of_lap (Err (Broken.Stopped k p r)) = waiting_of r
 
 -- the step that starves
 unfoldable pub starved_of_lap : Lapped → ℕ
-starved_of_lap Lapped.Accepted = 0
-starved_of_lap (Lapped.Starved s) = s.0
-starved_of_lap (Lapped.Refused r) = 0
-starved_of_lap (Lapped.Stopped k p r) = 0
+starved_of_lap (Ok Endless.Accepted) = 0
+starved_of_lap (Ok (Endless.Starved s)) = s.0
+starved_of_lap (Err (Broken.Refused r)) = 0
+starved_of_lap (Err (Broken.Stopped k p r)) = 0
 
 -- the index of the refused entry
 unfoldable pub index_of_lap : Lapped → ℕ
-index_of_lap Lapped.Accepted = 0
-index_of_lap (Lapped.Starved s) = 0
-index_of_lap (Lapped.Refused r) = 0
-index_of_lap (Lapped.Stopped k p r) = k
+index_of_lap (Ok Endless.Accepted) = 0
+index_of_lap (Ok (Endless.Starved s)) = 0
+index_of_lap (Err (Broken.Refused r)) = 0
+index_of_lap (Err (Broken.Stopped k p r)) = k
 
 -- its pass
 unfoldable pub pass_of_lap : Lapped → ℕ
-pass_of_lap Lapped.Accepted = 0
-pass_of_lap (Lapped.Starved s) = 0
-pass_of_lap (Lapped.Refused r) = 0
-pass_of_lap (Lapped.Stopped k p r) = number_of_pass p
+pass_of_lap (Ok Endless.Accepted) = 0
+pass_of_lap (Ok (Endless.Starved s)) = 0
+pass_of_lap (Err (Broken.Refused r)) = 0
+pass_of_lap (Err (Broken.Stopped k p r)) = number_of_pass p
 
 -- ---- the table, before any entry is looked at: 2, 4, 6, 7, 8, 17
 
@@ -97,14 +100,14 @@ pub record Stops (g : Graph) (m : Marking) (stem lap : List Entry) (k : ℕ) (p 
 -- What is right to answer. Before any entry is looked at, the table. Then the earliest entry that is not allowed, by index and pass; or,
 -- where the run goes on for ever, accepted, or starved with the lowest step that starves
 unfoldable pub LapAnswer : Graph → Marking → List ℕ → List ℕ → Lapped → Type 0
-LapAnswer g m stem lap (Lapped.Refused r) = first (lap_lines g m stem lap) ≡ Verdict.Refused r
-LapAnswer g m stem lap (Lapped.Stopped k p r) = (first (lap_lines g m stem lap) ≡ Verdict.Clear)
+LapAnswer g m stem lap (Err (Broken.Refused r)) = first (lap_lines g m stem lap) ≡ Err r
+LapAnswer g m stem lap (Err (Broken.Stopped k p r)) = (first (lap_lines g m stem lap) ≡ Ok tt)
     × Stops g m (entries stem) (entries lap) k p r
-LapAnswer g m stem lap Lapped.Accepted =
-    (first (lap_lines g m stem lap) ≡ Verdict.Clear)
+LapAnswer g m stem lap (Ok Endless.Accepted) =
+    (first (lap_lines g m stem lap) ≡ Ok tt)
     × GoesOn g m (endless_run (entries stem) (entries lap))
     × Accepting g m (endless_run (entries stem) (entries lap))
-LapAnswer g m stem lap (Lapped.Starved s) =
-    (first (lap_lines g m stem lap) ≡ Verdict.Clear)
+LapAnswer g m stem lap (Ok (Endless.Starved s)) =
+    (first (lap_lines g m stem lap) ≡ Ok tt)
     × GoesOn g m (endless_run (entries stem) (entries lap))
     × Starves g m (endless_run (entries stem) (entries lap)) s.0

@@ -16,14 +16,17 @@ use Rattle.moves.specs.declared.inner.Row.{Row}
 use Rattle.moves.specs.declared.Marking.{Marking}
 use Rattle.moves.specs.declared.Entry.{Entry}
 use Rattle.moves.specs.declared.Refusal.{Refusal}
-use Rattle.moves.specs.declared.Verdict.{Verdict}
+use Rattle.moves.specs.First.{Verdict}
 use Rattle.rules.specs.Answers.{row_of, entry_asked, entry_move}
-use Rattle.moves.specs.Move.{after, asked_of, move_of}
+use Rattle.moves.specs.Move.{after, move_of}
 use Rattle.folding.specs.Effect.{after_all}
-use Rattle.laps.specs.declared.inner.Leg.{Leg}
+use Rattle.laps.specs.Decision.{Leg}
 use Rattle.laps.specs.Endless.{step_at, marking_at, DueAt, DoneAt, ExcludedAt, Waiting}
 use Rattle.laps.specs.Inner.{verdict_at}
 use Rattle.laps.specs.Decision.{still, go_through, leg_on}
+use Rattle.std.specs.Prelude.{Ok, Err, Result}
+use Rattle.laps.specs.Decision.{leg}
+use Rattle.laps.specs.Decision.{halt}
 
 -- ---- one step
 
@@ -124,13 +127,13 @@ module _ (g : Graph) (m : Marking) (e : ℕ → Entry) where
   -- ---- the steps that wait throughout
 
   -- at i the waiting of s ends: it is not due, or it is done, or it is not included
-  abbrev pub Ends : ℕ → ℕ → Type 0
-  Ends i s = (has (M i).due s ≡ false) ⊎ (DoneAt g m e i s ⊎ ExcludedAt g m e i s)
+  abbrev pub (Result Ends Refusal) : ℕ → ℕ → Type 0
+  (Result Ends Refusal) i s = (has (M i).due s ≡ false) ⊎ (DoneAt g m e i s ⊎ ExcludedAt g m e i s)
 
   -- x are the steps of w that wait at each of the n positions from i on
   pub record Throughout (i n w x : ℕ) : Type 0 where
     pub only : (s : ℕ) → has x s ≡ true → (has w s ≡ true) × ((j : ℕ) → i ≤ j → j < i + n → Waiting g m e j s)
-    pub gone : (s : ℕ) → has w s ≡ true → has x s ≡ false → (j : ℕ) × (i ≤ j) × (j < i + n) × Ends j s
+    pub gone : (s : ℕ) → has w s ≡ true → has x s ≡ false → (j : ℕ) × (i ≤ j) × (j < i + n) × (Result Ends Refusal) j s
 
   throughout_none : (i w : ℕ) → Throughout i 0 w w
   throughout_none i w =
@@ -154,7 +157,7 @@ module _ (g : Graph) (m : Marking) (e : ℕ → Entry) where
               (record { due = now.1; included = now.2; undone = now.3 })
 
       gone : (s : ℕ) → has w s ≡ true → has x s ≡ false → (b : Bool) → has (still w (M i) (step_at g m e i)) s ≡ b → (j : ℕ) × (i ≤ j)
-          × (j < i + suc n) × Ends j s
+          × (j < i + suc n) × (Result Ends Refusal) j s
       gone s h k true q =
           let f = r.gone s q k in
           let lo : suc i ≤ f.0 = f.1 in
@@ -167,8 +170,8 @@ module _ (g : Graph) (m : Marking) (e : ℕ → Entry) where
   -- all n entries are allowed
   pub record Passed (i n w : ℕ) (leg : Leg) : Type 0 where
     pub left : ℕ
-    pub is : leg ≡ Leg.Ended (M (i + n)) left
-    pub allowed : (j : ℕ) → i ≤ j → j < i + n → says j ≡ Verdict.Clear
+    pub is : leg ≡ Ok (leg (M (i + n)) left)
+    pub allowed : (j : ℕ) → i ≤ j → j < i + n → says j ≡ Ok tt
     pub kept : Throughout i n w left
 
   -- one of them is not
@@ -176,16 +179,16 @@ module _ (g : Graph) (m : Marking) (e : ℕ → Entry) where
     pub depth : ℕ
     pub refusal : Refusal
     pub small : depth < n
-    pub is : leg ≡ Leg.Stopped (k + depth) refusal
-    pub before : (j : ℕ) → i ≤ j → j < i + depth → says j ≡ Verdict.Clear
-    pub here : says (i + depth) ≡ Verdict.Refused refusal
+    pub is : leg ≡ Err (halt (k + depth) refusal)
+    pub before : (j : ℕ) → i ≤ j → j < i + depth → says j ≡ Ok tt
+    pub here : says (i + depth) ≡ Err refusal
 
   leg_walks : (n i w k : ℕ) → Passed i n w (leg_on g (M i) w k (chunk e n i)) ⊎ Barred i n k (leg_on g (M i) w k (chunk e n i))
-  unfolding leg_on chunk go_through entry_move entry_asked asked_of move_of marking_at
+  unfolding leg_on chunk go_through entry_move entry_asked move_of marking_at
   leg_walks zero i w k =
       inl (record {
         left = w;
-        is = ap (λ (j : ℕ). Leg.Ended (M j) w) (sym (add-zero i));
+        is = ap (λ (j : ℕ). Ok (leg (M j) w)) (sym (add-zero i));
         allowed = λ j a b.
             absurd (let z : ⊥ = omega arith in z);
         kept = throughout_none i w;
@@ -196,42 +199,42 @@ module _ (g : Graph) (m : Marking) (e : ℕ → Entry) where
       rest = leg_on g (M (suc i)) (still w (M i) (step_at g m e i)) (k + 1) (chunk e n (suc i))
 
       -- the first of them is allowed, and those after it
-      first_too : says i ≡ Verdict.Clear → (d : ℕ) → ((j : ℕ) → suc i ≤ j → j < suc i + d → says j ≡ Verdict.Clear) → (j : ℕ) → i ≤ j
-          → j < i + suc d → says j ≡ Verdict.Clear
+      first_too : says i ≡ Ok tt → (d : ℕ) → ((j : ℕ) → suc i ≤ j → j < suc i + d → says j ≡ Ok tt) → (j : ℕ) → i ≤ j
+          → j < i + suc d → says j ≡ Ok tt
       first_too q d more j a b = at (dec_lt i j)
         where
-          at : Dec (i < j) → says j ≡ Verdict.Clear
+          at : Dec (i < j) → says j ≡ Ok tt
           at (yes p) = more j p (let z : j < suc i + d = omega arith in z)
           at (no p) = ap says (let z : j ≡ i = omega arith in z) ∙ q
 
       go : (v : Verdict) → says i ≡ v → Passed (suc i) n (still w (M i) (step_at g m e i)) rest ⊎ Barred (suc i) n (k + 1) rest
-          → Passed i (suc n) w (go_through k (move_of (asked_of v) (M i) (M (suc i)))
+          → Passed i (suc n) w (go_through k (move_of v (M i) (M (suc i)))
           (λ next. leg_on g next (still w (M i) (step_at g m e i)) (k + 1) (chunk e n (suc i))))
-          ⊎ Barred i (suc n) k (go_through k (move_of (asked_of v) (M i) (M (suc i)))
+          ⊎ Barred i (suc n) k (go_through k (move_of v (M i) (M (suc i)))
           (λ next. leg_on g next (still w (M i) (step_at g m e i)) (k + 1) (chunk e n (suc i))))
-      go Verdict.Clear q (inl p) =
+      go (Ok _) q (inl p) =
           inl (record {
             left = p.left;
-            is = p.is ∙ ap (λ (j : ℕ). Leg.Ended (M j) p.left) (let z : suc i + n ≡ i + suc n = omega arith in z);
+            is = p.is ∙ ap (λ (j : ℕ). Ok (leg (M j) p.left)) (let z : suc i + n ≡ i + suc n = omega arith in z);
             allowed = first_too q n p.allowed;
             kept = throughout_more i n w p.left p.kept;
           })
-      go Verdict.Clear q (inr b) =
+      go (Ok _) q (inr b) =
           let small : b.depth < n = b.small in
           inr (record {
             depth = suc b.depth;
             refusal = b.refusal;
             small = (let z : suc b.depth < suc n = omega arith in z);
-            is = b.is ∙ ap (λ (j : ℕ). Leg.Stopped j b.refusal) (let z : k + 1 + b.depth ≡ k + suc b.depth = omega arith in z);
+            is = b.is ∙ ap (λ (j : ℕ). Err (halt j b.refusal)) (let z : k + 1 + b.depth ≡ k + suc b.depth = omega arith in z);
             before = first_too q b.depth b.before;
             here = ap says (let z : i + suc b.depth ≡ suc i + b.depth = omega arith in z) ∙ b.here;
           })
-      go (Verdict.Refused r) q later =
+      go (Err r) q later =
           inr (record {
             depth = 0;
             refusal = r;
             small = (let z : 0 < suc n = omega arith in z);
-            is = ap (λ (j : ℕ). Leg.Stopped j r) (sym (add-zero k));
+            is = ap (λ (j : ℕ). Err (halt j r)) (sym (add-zero k));
             before = λ j a b. absurd (let z : ⊥ = omega arith in z);
             here = ap says (add-zero i) ∙ q;
           })

@@ -13,12 +13,12 @@ use borrow.Author.Tests.{lt-ltb, le-ltb}
 use Rattle.sets.specs.Sets.{has}
 use Rattle.rules.specs.Graph.{Graph, graph_verdict}
 use Rattle.moves.specs.Move.{entry_of}
-use Rattle.moves.specs.declared.Move.{Move}
+use Rattle.moves.specs.Move.{Move}
 use Rattle.moves.specs.Inside.{Inside}
 use Rattle.moves.specs.declared.Marking.{Marking}
 use Rattle.moves.specs.declared.Entry.{Entry}
 use Rattle.moves.specs.declared.Refusal.{Refusal}
-use Rattle.moves.specs.declared.Verdict.{Verdict}
+use Rattle.moves.specs.First.{Verdict}
 use Rattle.folding.specs.Effect.{after_all}
 use Rattle.folding.specs.Laws.{after_twice}
 use Rattle.laps.specs.declared.Pass.{Pass}
@@ -27,6 +27,8 @@ use Rattle.laps.specs.Inner.{verdict_at, Unbarred, taken_clear, moves_at}
 use Rattle.laps.specs.Laps.{endless_run, index_at, pass_at, number_of_pass, Stops}
 use Rattle.laps.specs.Legs.{chunk, chunk_is, after_chunk, Throughout}
 use Rattle.laps.specs.Repeats.{Decides, for_ever, starving_from, period_decides}
+use Rattle.std.specs.Prelude.{Ok, Err}
+use Rattle.moves.specs.Move.{denied}
 
 -- ---- where a position stands
 
@@ -136,7 +138,7 @@ module _ (stem lap : List Entry) (some : 0 < length lap) where
     entry_again i h = run_again i (let z : length stem ≤ i = omega arith in z)
 
     -- a lap allowed twice is allowed for ever
-    pub twice_for_ever : ((i : ℕ) → i < second_lap_at + length lap → says i ≡ Verdict.Clear) → Unbarred g m e
+    pub twice_for_ever : ((i : ℕ) → i < second_lap_at + length lap → says i ≡ Ok tt) → Unbarred g m e
     twice_for_ever h = for_ever g m e second_lap_at (length lap) some entry_again marking_again h
 
     -- the steps that wait throughout the second lap are those that starve
@@ -149,7 +151,7 @@ module _ (stem lap : List Entry) (some : 0 < length lap) where
     starving_laps = starving_from g m e second_lap_at (length lap) some entry_again marking_again
 
     -- pass 3 never occurs
-    pub never_later : graph_verdict g ≡ Verdict.Clear → Inside g.steps m → (k : ℕ) (r : Refusal) → Stops g m stem lap k Pass.Later r → ⊥
+    pub never_later : graph_verdict g ≡ Ok tt → Inside g.steps m → (k : ℕ) (r : Refusal) → Stops g m stem lap k Pass.Later r → ⊥
     unfolding number_of_pass
     never_later clear within k r s = go (dec_lt s.position (second_lap_at + length lap))
       where
@@ -159,5 +161,5 @@ module _ (stem lap : List Entry) (some : 0 < length lap) where
         go (no h) =
             let all = twice_for_ever (λ i l. taken_clear g m e i (s.refused.before i (let z : i < s.position = omega arith in z))) in
             let taken : TakenAt g m e s.position = moves_at g m e clear within s.position (λ j l. all j) (all s.position) in
-            let no : moved_at g m e s.position ≡ Move.Refused (M s.position) r = s.refused.here in
+            let no : moved_at g m e s.position ≡ Err (denied (M s.position) r) = s.refused.here in
             let z : ◌≡◌ {A = ℕ} 0 1 = cc in omega arith

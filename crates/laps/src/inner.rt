@@ -1,6 +1,5 @@
 // The stem, then the lap twice: on a graph, journals and a marking with nothing against them.
 ghost use Rattle.std.specs.Prelude.{◌≡◌, ◌%◌, ◌<◌, ◌≤◌, length};
-ghost use Rattle.moves.specs.declared.Verdict.{Verdict};
 ghost use Rattle.rules.specs.Graph.{graph_of, graph_verdict};
 ghost use Rattle.sets.specs.Sets.{lowest};
 ghost use Rattle.journal.specs.Journal.{entries};
@@ -52,7 +51,7 @@ fn judge(x: u64) -> Lapped
 
 // The entries, on a graph and a journal that are as they should be. Refusals 11 to 15.
 fn go_through<'a>(g: &'a Job, m: Marking, j: &[u8]) -> Leg
-    requires { (graph_verdict (graph_of g.now) ≡ Verdict.Clear) × (length j.now % 3 ≡ 0) × (length j.now ≤ 65535) }
+    requires { (graph_verdict (graph_of g.now) ≡ Ok tt) × (length j.now % 3 ≡ 0) × (length j.now ≤ 65535) }
     ensures { result ≡ leg_of (graph_of g.now) m (entries j.now) }
 {
     let singles = SINGLES;
@@ -76,7 +75,7 @@ fn go_through<'a>(g: &'a Job, m: Marking, j: &[u8]) -> Leg
 
 // The lap's second time. Refusals 11 to 15.
 fn second_lap<'a>(g: &'a Job, m: Marking, lap: &[u8]) -> Lapped
-    requires { (graph_verdict (graph_of g.now) ≡ Verdict.Clear) × (length lap.now % 3 ≡ 0) × (length lap.now ≤ 65535) }
+    requires { (graph_verdict (graph_of g.now) ≡ Ok tt) × (length lap.now % 3 ≡ 0) × (length lap.now ≤ 65535) }
     ensures { result ≡ second_lap (graph_of g.now) m (entries lap.now) }
 {
     let leg = go_through(g, m, lap);
@@ -88,26 +87,26 @@ fn second_lap<'a>(g: &'a Job, m: Marking, lap: &[u8]) -> Lapped
 
 // The lap's first time, and then its second. Refusals 11 to 15.
 fn first_lap<'a>(g: &'a Job, m: Marking, lap: &[u8]) -> Lapped
-    requires { (graph_verdict (graph_of g.now) ≡ Verdict.Clear) × (length lap.now % 3 ≡ 0) × (length lap.now ≤ 65535) }
+    requires { (graph_verdict (graph_of g.now) ≡ Ok tt) × (length lap.now % 3 ≡ 0) × (length lap.now ≤ 65535) }
     ensures { result ≡ first_lap (graph_of g.now) m (entries lap.now) }
 {
     let ran = run_entries(g, m, lap);
     match ran {
-        Ran::Stopped(k, _, r) => Lapped::Stopped(k, Pass::First, r),
-        Ran::Ended(again, _) => second_lap(g, again, lap),
+        Err(Stopped { index: k, marking: _, refusal: r }) => Lapped::Stopped(k, Pass::First, r),
+        Ok(Ended { marking: again, entries: _ }) => second_lap(g, again, lap),
     }
 }
 
 // The stem, and then the lap twice, on a graph, journals and a marking that are as they should be. Refusals 11 to 15.
 pub fn decide<'a>(g: &'a Job, m: Marking, stem: &[u8], lap: &[u8]) -> Lapped
-    requires { (graph_verdict (graph_of g.now) ≡ Verdict.Clear)
+    requires { (graph_verdict (graph_of g.now) ≡ Ok tt)
         × (length stem.now % 3 ≡ 0) × (length stem.now ≤ 65535)
         × (length lap.now % 3 ≡ 0) × (length lap.now ≤ 65535) }
     ensures { result ≡ decision (graph_of g.now) m (entries stem.now) (entries lap.now) }
 {
     let ran = run_entries(g, m, stem);
     match ran {
-        Ran::Stopped(k, _, r) => Lapped::Stopped(k, Pass::Stem, r),
-        Ran::Ended(start, _) => first_lap(g, start, lap),
+        Err(Stopped { index: k, marking: _, refusal: r }) => Lapped::Stopped(k, Pass::Stem, r),
+        Ok(Ended { marking: start, entries: _ }) => first_lap(g, start, lap),
     }
 }

@@ -36,7 +36,7 @@ pub fn lap<'a, 'b, 'c>(g: &'a Job, m: Marking, stem: &'b [u8], lap: &'c [u8]) ->
 {
     let steps = g[0];
     let v = rules::check(g);
-    if let Verdict::Refused(r) = v {
+    if let Err(r) = v {
         return Lapped::Refused(r);
     }
     if !(length_fits(stem) & length_fits(lap)) {

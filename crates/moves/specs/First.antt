@@ -1,11 +1,10 @@
 -- The numbers on the door, and which of them is given: the first that holds, in the table's order.
-use Rattle.std.specs.Prelude.{ℕ, List, [], ◌∷◌, Bool, cond}
+use Rattle.std.specs.Prelude.{ℕ, List, [], ◌∷◌, Bool, cond, Result, Ok, Err}
 use Rattle.moves.specs.declared.Refusal.{Refusal}
 use Rattle.moves.specs.declared.Refusal.TheVariants.{Layout, Counts, Bodies, Beyond, Arrows, Both, Length, Outside, NoRank}
 use Rattle.moves.specs.declared.Refusal.TheVariants.{IllFormed, Unknown, NotHeld, NotOnStep, Excluded, Waits, NotApplied, EmptyLap}
 use Rattle.moves.specs.declared.Refusal.TheVariants.{Room, Store, Arms}
 use Rattle.moves.specs.declared.Told.{Told}
-use Rattle.moves.specs.declared.Verdict.{Verdict}
 
 -- the number of a refusal
 unfoldable pub number_of : Refusal → ℕ
@@ -57,16 +56,20 @@ waiting_of Arms = 0
 unfoldable pub told_of : Refusal → Told
 told_of r = record { number = number_of r; waiting = waiting_of r }
 
+-- nothing against the input, or the first refusal that holds
+abbrev pub Verdict : Type 0
+Verdict = Result (Unit {0}) Refusal
+
 -- a line of a call's table: a refusal, and whether it holds
 abbrev pub Line : Type 0
 Line = Refusal × Bool
 
 -- the first line that holds
 unfoldable pub first : List Line → Verdict
-first [] = Verdict.Clear
-first (l ∷ rest) = cond l.1 (Verdict.Refused l.0) (first rest)
+first [] = Ok tt
+first (l ∷ rest) = cond l.1 (Err l.0) (first rest)
 
 -- 0 where nothing holds
 unfoldable pub number_of_verdict : Verdict → ℕ
-number_of_verdict Verdict.Clear = 0
-number_of_verdict (Verdict.Refused r) = number_of r
+number_of_verdict (Ok _) = 0
+number_of_verdict (Err r) = number_of r

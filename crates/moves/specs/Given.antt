@@ -4,38 +4,39 @@ use Rattle.std.proofs.Common.{sym, ap, ◌∙◌, subst, true≢false, lt_trans,
 use Rattle.std.proofs.lemmas.Bool.{false≢true}
 use Rattle.sets.specs.Truth.{and_left, and_right, and_intro, or_first, or_second, or_split}
 use Rattle.moves.specs.declared.Refusal.{Refusal}
-use Rattle.moves.specs.declared.Verdict.{Verdict}
+use Rattle.moves.specs.First.{Verdict}
 use Rattle.moves.specs.First.{Line, first, number_of_verdict, number_of}
+use Rattle.std.specs.Prelude.{Ok, Err}
 
 -- ---- the first line that holds
 
 -- a table with nothing against it hands on to the next
-pub first_clear : (a b : List Line) → first a ≡ Verdict.Clear → first (a ++ b) ≡ first b
+pub first_clear : (a b : List Line) → first a ≡ Ok tt → first (a ++ b) ≡ first b
 unfolding first
 first_clear [] b e = refl
 first_clear (l ∷ a) b e = go l.1 refl (first_clear a b)
   where
-    go : (h : Bool) → l.1 ≡ h → (first a ≡ Verdict.Clear → first (a ++ b) ≡ first b)
-        → cond l.1 (Verdict.Refused l.0) (first (a ++ b)) ≡ first b
+    go : (h : Bool) → l.1 ≡ h → (first a ≡ Ok tt → first (a ++ b) ≡ first b)
+        → cond l.1 (Err l.0) (first (a ++ b)) ≡ first b
     go true p rest = absurd (let z : ◌≡◌ {A = ℕ} 0 1 = cc in let w : ⊥ = omega arith in w)
-    go false p rest = ap (λ (h : Bool). cond h (Verdict.Refused l.0) (first (a ++ b))) p
-        ∙ rest (ap (λ (h : Bool). cond h (Verdict.Refused l.0) (first a)) (sym p) ∙ e)
+    go false p rest = ap (λ (h : Bool). cond h (Err l.0) (first (a ++ b))) p
+        ∙ rest (ap (λ (h : Bool). cond h (Err l.0) (first a)) (sym p) ∙ e)
 
 -- a refusal of a table stands whatever follows
-pub first_refused : (a b : List Line) (r : Refusal) → first a ≡ Verdict.Refused r → first (a ++ b) ≡ Verdict.Refused r
+pub first_refused : (a b : List Line) (r : Refusal) → first a ≡ Err r → first (a ++ b) ≡ Err r
 unfolding first
 first_refused [] b r e = absurd (let z : ◌≡◌ {A = ℕ} 0 1 = cc in let w : ⊥ = omega arith in w)
 first_refused (l ∷ a) b r e = go l.1 refl (first_refused a b r)
   where
-    go : (h : Bool) → l.1 ≡ h → (first a ≡ Verdict.Refused r → first (a ++ b) ≡ Verdict.Refused r)
-        → cond l.1 (Verdict.Refused l.0) (first (a ++ b)) ≡ Verdict.Refused r
-    go true p rest = ap (λ (h : Bool). cond h (Verdict.Refused l.0) (first (a ++ b))) p
-        ∙ ap (λ (h : Bool). cond h (Verdict.Refused l.0) (first a)) (sym p) ∙ e
-    go false p rest = ap (λ (h : Bool). cond h (Verdict.Refused l.0) (first (a ++ b))) p
-        ∙ rest (ap (λ (h : Bool). cond h (Verdict.Refused l.0) (first a)) (sym p) ∙ e)
+    go : (h : Bool) → l.1 ≡ h → (first a ≡ Err r → first (a ++ b) ≡ Err r)
+        → cond l.1 (Err l.0) (first (a ++ b)) ≡ Err r
+    go true p rest = ap (λ (h : Bool). cond h (Err l.0) (first (a ++ b))) p
+        ∙ ap (λ (h : Bool). cond h (Err l.0) (first a)) (sym p) ∙ e
+    go false p rest = ap (λ (h : Bool). cond h (Err l.0) (first (a ++ b))) p
+        ∙ rest (ap (λ (h : Bool). cond h (Err l.0) (first a)) (sym p) ∙ e)
 
 -- in a table with nothing against it no line holds
-pub clear_head : (l : Line) (a : List Line) → first (l ∷ a) ≡ Verdict.Clear → l.1 ≡ false
+pub clear_head : (l : Line) (a : List Line) → first (l ∷ a) ≡ Ok tt → l.1 ≡ false
 unfolding first
 clear_head l a e = go l.1 refl
   where
@@ -43,25 +44,25 @@ clear_head l a e = go l.1 refl
     go true p = absurd (let z : ◌≡◌ {A = ℕ} 0 1 = cc in let w : ⊥ = omega arith in w)
     go false p = p
 
-pub clear_tail : (l : Line) (a : List Line) → first (l ∷ a) ≡ Verdict.Clear → first a ≡ Verdict.Clear
+pub clear_tail : (l : Line) (a : List Line) → first (l ∷ a) ≡ Ok tt → first a ≡ Ok tt
 unfolding first
-clear_tail l a e = ap (λ (h : Bool). cond h (Verdict.Refused l.0) (first a)) (sym (clear_head l a e)) ∙ e
+clear_tail l a e = ap (λ (h : Bool). cond h (Err l.0) (first a)) (sym (clear_head l a e)) ∙ e
 
 -- where nothing in two tables holds, nothing in either does
-pub clear_front : (a b : List Line) → first (a ++ b) ≡ Verdict.Clear → first a ≡ Verdict.Clear
+pub clear_front : (a b : List Line) → first (a ++ b) ≡ Ok tt → first a ≡ Ok tt
 clear_front a b e = go (first a) refl
   where
-    go : (v : Verdict) → first a ≡ v → first a ≡ Verdict.Clear
-    go Verdict.Clear p = p
-    go (Verdict.Refused r) p =
-        absurd (let s : Verdict.Refused r ≡ Verdict.Clear = sym (first_refused a b r p) ∙ e in let z : ◌≡◌ {A = ℕ} 0 1 = cc in let w : ⊥ =
+    go : (v : Verdict) → first a ≡ v → first a ≡ Ok tt
+    go (Ok _) p = p
+    go (Err r) p =
+        absurd (let s : Err r ≡ (Ok tt) = sym (first_refused a b r p) ∙ e in let z : ◌≡◌ {A = ℕ} 0 1 = cc in let w : ⊥ =
         omega arith in w)
 
-pub clear_back : (a b : List Line) → first (a ++ b) ≡ Verdict.Clear → first b ≡ Verdict.Clear
+pub clear_back : (a b : List Line) → first (a ++ b) ≡ Ok tt → first b ≡ Ok tt
 clear_back a b e = sym (first_clear a b (clear_front a b e)) ∙ e
 
 -- what is clear is not refused
-pub clear_refused : {A : Type 0} (v : Verdict) (r : Refusal) → v ≡ Verdict.Clear → v ≡ Verdict.Refused r → A
+pub clear_refused : {A : Type 0} (v : Verdict) (r : Refusal) → v ≡ Ok tt → v ≡ Err r → A
 clear_refused v r p q = absurd (let z : ◌≡◌ {A = ℕ} 0 1 = cc in let w : ⊥ = omega arith in w)
 
 -- every number of the table is below k
@@ -69,29 +70,29 @@ unfoldable pub numbers_below : ℕ → List Line → Bool
 numbers_below k [] = true
 numbers_below k (l ∷ rest) = ltb (number_of l.0) k && numbers_below k rest
 
-pub first_below : (k : ℕ) (a : List Line) (r : Refusal) → numbers_below k a ≡ true → first a ≡ Verdict.Refused r → number_of r < k
+pub first_below : (k : ℕ) (a : List Line) (r : Refusal) → numbers_below k a ≡ true → first a ≡ Err r → number_of r < k
 unfolding first numbers_below
 first_below k [] r h e = absurd (let z : ◌≡◌ {A = ℕ} 0 1 = cc in let w : ⊥ = omega arith in w)
 first_below k (l ∷ a) r h e = go l.1 refl (first_below k a r (and_right (ltb (number_of l.0) k) (numbers_below k a) h))
   where
-    go : (b : Bool) → l.1 ≡ b → (first a ≡ Verdict.Refused r → number_of r < k) → number_of r < k
+    go : (b : Bool) → l.1 ≡ b → (first a ≡ Err r → number_of r < k) → number_of r < k
     go true p rest =
         let same : l.0 ≡ r = cc in
         subst (λ (q : Refusal). number_of q < k) same
         (ltb-true (number_of l.0) k (and_left (ltb (number_of l.0) k) (numbers_below k a) h))
-    go false p rest = rest (ap (λ (h : Bool). cond h (Verdict.Refused l.0) (first a)) (sym p) ∙ e)
+    go false p rest = rest (ap (λ (h : Bool). cond h (Err l.0) (first a)) (sym p) ∙ e)
 
 -- a refusal whose number is not below k is that of the second table, where all numbers of the first are
-pub first_late : (k : ℕ) (a b : List Line) (r : Refusal) → numbers_below k a ≡ true → first (a ++ b) ≡ Verdict.Refused r → k ≤ number_of r
-    → (first a ≡ Verdict.Clear) × (first b ≡ Verdict.Refused r)
+pub first_late : (k : ℕ) (a b : List Line) (r : Refusal) → numbers_below k a ≡ true → first (a ++ b) ≡ Err r → k ≤ number_of r
+    → (first a ≡ Ok tt) × (first b ≡ Err r)
 first_late k a b r low e high = go (first a) refl
   where
-    go : (v : Verdict) → first a ≡ v → (first a ≡ Verdict.Clear) × (first b ≡ Verdict.Refused r)
-    go Verdict.Clear p = (p, sym (first_clear a b p) ∙ e)
-    go (Verdict.Refused q) p =
-        let both : Verdict.Refused q ≡ Verdict.Refused r = sym (first_refused a b q p) ∙ e in
+    go : (v : Verdict) → first a ≡ v → (first a ≡ Ok tt) × (first b ≡ Err r)
+    go (Ok _) p = (p, sym (first_clear a b p) ∙ e)
+    go (Err q) p =
+        let both : Err q ≡ Err r = sym (first_refused a b q p) ∙ e in
         let same : q ≡ r = cc in
-        let below : number_of r < k = first_below k a r low (p ∙ ap Verdict.Refused same) in
+        let below : number_of r < k = first_below k a r low (p ∙ ap Err same) in
         absurd (let w : ⊥ = omega arith in w)
 
 -- ---- the number given is the lowest that holds
@@ -107,7 +108,7 @@ ascends k [] = true
 ascends k (l ∷ rest) = ltb k (number_of l.0) && ascends (number_of l.0) rest
 
 -- the number given lies above where its table starts
-pub first_above : (k : ℕ) (a : List Line) (r : Refusal) → ascends k a ≡ true → first a ≡ Verdict.Refused r → k < number_of r
+pub first_above : (k : ℕ) (a : List Line) (r : Refusal) → ascends k a ≡ true → first a ≡ Err r → k < number_of r
 unfolding first ascends
 first_above k [] r h e = absurd (let z : ◌≡◌ {A = ℕ} 0 1 = cc in let w : ⊥ = omega arith in w)
 first_above k (l ∷ a) r h e =
@@ -116,23 +117,23 @@ first_above k (l ∷ a) r h e =
     here : k < number_of l.0
     here = ltb-true k (number_of l.0) (and_left (ltb k (number_of l.0)) (ascends (number_of l.0) a) h)
 
-    go : (b : Bool) → l.1 ≡ b → (first a ≡ Verdict.Refused r → number_of l.0 < number_of r) → k < number_of r
+    go : (b : Bool) → l.1 ≡ b → (first a ≡ Err r → number_of l.0 < number_of r) → k < number_of r
     go true p rest = let same : l.0 ≡ r = cc in subst (λ (q : Refusal). k < number_of q) same here
-    go false p rest = lt_trans here (rest (ap (λ (h : Bool). cond h (Verdict.Refused l.0) (first a)) (sym p) ∙ e))
+    go false p rest = lt_trans here (rest (ap (λ (h : Bool). cond h (Err l.0) (first a)) (sym p) ∙ e))
 
 -- the number given holds
-pub first_holds : (a : List Line) (r : Refusal) → first a ≡ Verdict.Refused r → holds (number_of r) a ≡ true
+pub first_holds : (a : List Line) (r : Refusal) → first a ≡ Err r → holds (number_of r) a ≡ true
 unfolding first holds
 first_holds [] r e = absurd (let z : ◌≡◌ {A = ℕ} 0 1 = cc in let w : ⊥ = omega arith in w)
 first_holds (l ∷ a) r e = go l.1 refl (first_holds a r)
   where
-    go : (b : Bool) → l.1 ≡ b → (first a ≡ Verdict.Refused r → holds (number_of r) a ≡ true)
+    go : (b : Bool) → l.1 ≡ b → (first a ≡ Err r → holds (number_of r) a ≡ true)
         → ((eqb (number_of l.0) (number_of r) && l.1) || holds (number_of r) a) ≡ true
     go true p rest =
         let same : l.0 ≡ r = cc in
         or_first (holds (number_of r) a) (and_intro (eq-eqb (number_of l.0) (number_of r) (ap number_of same)) p)
     go false p rest = or_second (eqb (number_of l.0) (number_of r) && l.1)
-        (rest (ap (λ (h : Bool). cond h (Verdict.Refused l.0) (first a)) (sym p) ∙ e))
+        (rest (ap (λ (h : Bool). cond h (Err l.0) (first a)) (sym p) ∙ e))
 
 above : (k : ℕ) (a : List Line) (j : ℕ) → ascends k a ≡ true → holds j a ≡ true → k < j
 unfolding ascends holds
@@ -156,11 +157,11 @@ first_lowest k (l ∷ a) h j e =
     here = ltb-true k (number_of l.0) (and_left (ltb k (number_of l.0)) (ascends (number_of l.0) a) h)
 
     go : (b : Bool) → l.1 ≡ b → (holds j a ≡ true → (0 < number_of_verdict (first a)) × (number_of_verdict (first a) ≤ j))
-        → (0 < number_of_verdict (cond l.1 (Verdict.Refused l.0) (first a)))
-        × (number_of_verdict (cond l.1 (Verdict.Refused l.0) (first a)) ≤ j)
+        → (0 < number_of_verdict (cond l.1 (Err l.0) (first a)))
+        × (number_of_verdict (cond l.1 (Err l.0) (first a)) ≤ j)
     go true p rest =
-        subst (λ (b : Bool). (0 < number_of_verdict (cond b (Verdict.Refused l.0) (first a)))
-        × (number_of_verdict (cond b (Verdict.Refused l.0) (first a)) ≤ j)) (sym p) (
+        subst (λ (b : Bool). (0 < number_of_verdict (cond b (Err l.0) (first a)))
+        × (number_of_verdict (cond b (Err l.0) (first a)) ≤ j)) (sym p) (
           let up : k < number_of l.0 = here in omega arith,
           or_split (eqb (number_of l.0) j && l.1) (holds j a) (number_of l.0 ≤ j) e
               (λ t. let q : number_of l.0 ≡ j = eqb-true (number_of l.0) j (and_left (eqb (number_of l.0) j) l.1 t) in omega arith)
@@ -168,8 +169,8 @@ first_lowest k (l ∷ a) h j e =
               above (number_of l.0) a j (and_right (ltb k (number_of l.0)) (ascends (number_of l.0) a) h) t in omega arith),
         )
     go false p rest =
-        subst (λ (b : Bool). (0 < number_of_verdict (cond b (Verdict.Refused l.0) (first a)))
-        × (number_of_verdict (cond b (Verdict.Refused l.0) (first a)) ≤ j)) (sym p)
+        subst (λ (b : Bool). (0 < number_of_verdict (cond b (Err l.0) (first a)))
+        × (number_of_verdict (cond b (Err l.0) (first a)) ≤ j)) (sym p)
         (rest (or_split (eqb (number_of l.0) j && l.1) (holds j a) (holds j a ≡ true) e
         (λ t. absurd (true≢false (sym (and_right (eqb (number_of l.0) j) l.1 t) ∙ p)))
         (λ t. t)))
@@ -184,8 +185,8 @@ pub record Lowest (k : ℕ) (lines : List Line) : Type 0 where
 -- what is given holds
 given_holds : (lines : List Line) (v : Verdict) → first lines ≡ v → 0 < number_of_verdict v → holds (number_of_verdict v) lines ≡ true
 unfolding number_of_verdict
-given_holds lines Verdict.Clear e h = absurd (let z : ⊥ = omega arith in z)
-given_holds lines (Verdict.Refused r) e h = first_holds lines r e
+given_holds lines (Ok _) e h = absurd (let z : ⊥ = omega arith in z)
+given_holds lines (Err r) e h = first_holds lines r e
 
 -- a table whose numbers go up gives a number exactly if it is the lowest that holds
 pub given_exactly : (lines : List Line) → ascends 0 lines ≡ true → (k : ℕ) → 0 < k → (number_of_verdict (first lines) ≡ k) ↔ Lowest k lines
@@ -218,8 +219,8 @@ nothing_exactly lines up = (there, back (first lines) refl)
         go false t = t
 
     back : (v : Verdict) → first lines ≡ v → ((j : ℕ) → holds j lines ≡ false) → number_of_verdict (first lines) ≡ 0
-    back Verdict.Clear e none = ap number_of_verdict e
-    back (Verdict.Refused r) e none = absurd (true≢false (sym (first_holds lines r e) ∙ none (number_of r)))
+    back (Ok _) e none = ap number_of_verdict e
+    back (Err r) e none = absurd (true≢false (sym (first_holds lines r e) ∙ none (number_of r)))
 
 -- number k holds of two tables together exactly if it holds of one of them
 pub holds_append : (k : ℕ) (a b : List Line) → holds k (a ++ b) ≡ (holds k a || holds k b)

@@ -1,15 +1,13 @@
 -- Taking a step on its row (Definitions 4 and 5): when an entry is allowed, and the marking after it. All tests read the marking before.
-use Rattle.std.specs.Prelude.{ℕ, ◌+◌, List, [], ◌∷◌, Bool, not, ◌&&◌, cond, leb}
+use Rattle.std.specs.Prelude.{ℕ, ◌+◌, List, [], ◌∷◌, Bool, not, ◌&&◌, cond, leb, Result, Ok, Err}
 use Rattle.sets.specs.Sets.{has, single, union, meet, minus, empty, within}
 use Rattle.moves.specs.declared.inner.Row.{Row}
 use Rattle.moves.specs.declared.Marking.{Marking}
 use Rattle.moves.specs.declared.Entry.{Entry}
 use Rattle.moves.specs.declared.Refusal.{Refusal}
 use Rattle.moves.specs.declared.Refusal.TheVariants.{Outside, NotHeld, NotOnStep, Excluded, Waits}
-use Rattle.moves.specs.declared.Verdict.{Verdict}
-use Rattle.moves.specs.declared.Asked.{Asked}
-use Rattle.moves.specs.declared.Move.{Move}
-use Rattle.moves.specs.First.{Line, number_of, waiting_of}
+use Rattle.moves.specs.declared.Denied.{Denied}
+use Rattle.moves.specs.First.{Verdict, Line, number_of, waiting_of}
 
 -- person p takes step s in role r
 abbrev pub entry_of : ℕ → ℕ → ℕ → Entry
@@ -78,43 +76,45 @@ row_lines w m e =
 abbrev pub no_marking : Marking
 no_marking = record { done = 0; due = 0; included = 0 }
 
--- nothing against the entry: it is allowed. Else the refusal
-unfoldable pub asked_of : Verdict → Asked
-asked_of Verdict.Clear = Asked.Allowed
-asked_of (Verdict.Refused r) = Asked.Refused r
+-- the marking after a step; or a refusal, with the marking that goes with it
+abbrev pub Move : Type 0
+Move = Result Marking Denied
+
+abbrev pub denied : Marking → Refusal → Denied
+denied m r = record { marking = m; refusal = r }
 
 -- the marking that goes with a refusal: from 11 on the one handed in, below with zeros
 abbrev pub given_back : Marking → Refusal → Marking
 given_back before r = cond (leb 11 (number_of r)) before no_marking
 
 -- taking a step: ask, and if it is allowed the marking after
-unfoldable pub move_of : Asked → Marking → Marking → Move
-move_of Asked.Allowed before next = Move.Moved next
-move_of (Asked.Refused r) before next = Move.Refused (given_back before r) r
+unfoldable pub move_of : Verdict → Marking → Marking → Move
+move_of (Ok _) before next = Ok next
+move_of (Err r) before next = Err (denied (given_back before r) r)
 
 -- ---- number and values of each case
 
 -- 0 where the entry is allowed
-unfoldable pub number_of_asked : Asked → ℕ
-number_of_asked Asked.Allowed = 0
-number_of_asked (Asked.Refused r) = number_of r
+unfoldable pub number_of_asked : Verdict → ℕ
+number_of_asked (Ok _) = 0
+number_of_asked (Err r) = number_of r
 
 -- with 15 the steps that are waited for
-unfoldable pub waiting_of_asked : Asked → ℕ
-waiting_of_asked Asked.Allowed = 0
-waiting_of_asked (Asked.Refused r) = waiting_of r
+unfoldable pub waiting_of_asked : Verdict → ℕ
+waiting_of_asked (Ok _) = 0
+waiting_of_asked (Err r) = waiting_of r
 
 -- 0 where the step is taken
 unfoldable pub number_of_move : Move → ℕ
-number_of_move (Move.Moved m) = 0
-number_of_move (Move.Refused m r) = number_of r
+number_of_move (Ok m) = 0
+number_of_move (Err d) = number_of d.refusal
 
 -- with 15 the steps that are waited for
 unfoldable pub waiting_of_move : Move → ℕ
-waiting_of_move (Move.Moved m) = 0
-waiting_of_move (Move.Refused m r) = waiting_of r
+waiting_of_move (Ok m) = 0
+waiting_of_move (Err d) = waiting_of d.refusal
 
 -- the marking after, or what is given back
 unfoldable pub marking_of_move : Move → Marking
-marking_of_move (Move.Moved m) = m
-marking_of_move (Move.Refused m r) = m
+marking_of_move (Ok m) = m
+marking_of_move (Err d) = d.marking

@@ -1,9 +1,9 @@
 // Taking a step on the numbers of its row, for loops that read one row an entry.
 ghost use Rattle.std.specs.Prelude.{◌≡◌, ◌+◌, ◌<◌, ◌≤◌};
 ghost use Rattle.moves.specs.First.{first};
-ghost use Rattle.moves.specs.Move.{asked_of, given_back, row_lines, after, after_one, waits_for, marking_fits, rank_of};
+ghost use Rattle.moves.specs.Move.{given_back, row_lines, after, after_one, waits_for, marking_fits, rank_of};
 
-use crate::{Asked, Entry, Marking, NONE, Rank, Refusal, Step, tell};
+use crate::{Entry, Marking, NONE, Rank, Refusal, Step};
 
 // What an entry meets of the graph: the roles its person holds, the roles of its step, and the step's arrows.
 #[derive(Clone, Copy)]
@@ -44,34 +44,33 @@ pub fn moved(w: Row, m: Marking, s: u8) -> Marking
 }
 
 // Does its row allow an entry? Refusals 12 to 15. All tests, and the set that 15 hands out, read the marking as it is handed in.
-pub fn ask_row(w: Row, m: Marking, e: Entry) -> Asked
+pub fn ask_row(w: Row, m: Marking, e: Entry) -> Result<(), Refusal>
     requires { (e.step.0 < 64) × (e.role < 64) }
-    ensures { result ≡ asked_of (first (row_lines w m e)) }
+    ensures { result ≡ first (row_lines w m e) }
 {
     let s = e.step.0;
     let r = e.role;
     if !sets::has(w.held, r) {
-        return Asked::Refused(Refusal::NotHeld);
+        return Err(Refusal::NotHeld);
     }
     if !sets::has(w.allows, r) {
-        return Asked::Refused(Refusal::NotOnStep);
+        return Err(Refusal::NotOnStep);
     }
     if !sets::has(m.included, s) {
-        return Asked::Refused(Refusal::Excluded);
+        return Err(Refusal::Excluded);
     }
     let open = waits(w.conditions, m);
     if open != 0 {
-        return Asked::Refused(Refusal::Waits(open));
+        return Err(Refusal::Waits(open));
     }
-    Asked::Allowed
+    Ok(())
 }
 
 // The marking that goes with a refusal: from 11 on the one handed in, below 11 an empty one.
 pub fn give_back(m: Marking, r: Refusal) -> Marking
     ensures { result ≡ given_back m r }
 {
-    let t = tell(r);
-    if t.number < 11 {
+    if r.number() < 11 {
         return NONE;
     }
     m

@@ -2,13 +2,14 @@
 #![tactic(auto)]
 
 ghost use Rattle.std.specs.Prelude.{◌≡◌};
-ghost use Rattle.moves.specs.First.{told_of};
+ghost use Rattle.moves.specs.First.{number_of, waiting_of, told_of};
+ghost use Rattle.moves.specs.Move.{denied, no_marking};
 
 pub mod inner;
 
 // A step, counted from 0.
 #[repr(C)]
-#[derive(Clone, Copy)]
+#[derive(Clone, Copy, PartialEq, Eq)]
 pub struct Step(pub u8);
 
 // A step's rank in the tracker, counted from 1.
@@ -17,7 +18,7 @@ pub struct Rank(pub u8);
 
 // A person takes a step in a role.
 #[repr(C)]
-#[derive(Clone, Copy)]
+#[derive(Clone, Copy, PartialEq, Eq)]
 pub struct Entry {
     pub person: u8,
     pub step: Step,
@@ -26,7 +27,7 @@ pub struct Entry {
 
 // Three sets of steps: done before (Ex), due (Re), included (In).
 #[repr(C)]
-#[derive(Clone, Copy)]
+#[derive(Clone, Copy, PartialEq, Eq)]
 pub struct Marking {
     pub done: u64,
     pub due: u64,
@@ -64,26 +65,11 @@ pub enum Refusal {
     Arms,
 }
 
-// Nothing against the input, or the first refusal that holds.
+// A refusal, and the marking that goes with it: from 11 on the one handed in, below an empty one.
 #[derive(Clone, Copy)]
-pub enum Verdict {
-    Clear,
-    Refused(Refusal),
-}
-
-// An entry that is asked for: it is allowed, or refused.
-#[derive(Clone, Copy)]
-pub enum Asked {
-    Allowed,
-    Refused(Refusal),
-}
-
-// A step taken, with the marking after; or refused, with the marking handed in (below 11: an empty one). The marking stands first in
-// both, so that it lies in one place whatever the answer is.
-#[derive(Clone, Copy)]
-pub enum Move {
-    Moved(Marking),
-    Refused(Marking, Refusal),
+pub struct Denied {
+    pub marking: Marking,
+    pub refusal: Refusal,
 }
 
 // What a refusal says: its number on the door, and with 15 the set of steps that are waited for (empty with every other).
@@ -93,89 +79,66 @@ pub struct Told {
     pub waiting: u64,
 }
 
+impl Refusal {
+    // The number on the door.
+    #[tactic(auto, unfolding(crate::specs::First::number_of))]
+    pub fn number(self) -> u8
+        ensures { result ≡ number_of self }
+    {
+        match self {
+            Refusal::Layout => 1,
+            Refusal::Counts => 2,
+            Refusal::Bodies => 3,
+            Refusal::Beyond => 4,
+            Refusal::Arrows => 5,
+            Refusal::Both => 6,
+            Refusal::Length => 7,
+            Refusal::Outside => 8,
+            Refusal::NoRank => 9,
+            Refusal::IllFormed => 10,
+            Refusal::Unknown => 11,
+            Refusal::NotHeld => 12,
+            Refusal::NotOnStep => 13,
+            Refusal::Excluded => 14,
+            Refusal::Waits(_) => 15,
+            Refusal::NotApplied => 16,
+            Refusal::EmptyLap => 17,
+            Refusal::Room => 18,
+            Refusal::Store => 22,
+            Refusal::Arms => 30,
+        }
+    }
+
+    // The steps that are waited for.
+    #[tactic(auto, unfolding(crate::specs::First::waiting_of))]
+    pub fn waiting(self) -> u64
+        ensures { result ≡ waiting_of self }
+    {
+        match self {
+            Refusal::Waits(open) => open,
+            _ => 0,
+        }
+    }
+}
+
+// A refusal below 11, which gives no marking back.
+impl From<Refusal> for Denied {
+    ghost from_gives = { λ r d. d ≡ denied no_marking r };
+
+    fn from(refusal: Refusal) -> Denied {
+        Denied {
+            marking: NONE,
+            refusal,
+        }
+    }
+}
+
+#[tactic(auto, unfolding(crate::specs::First::told_of))]
 pub fn tell(r: Refusal) -> Told
     ensures { result ≡ told_of r }
 {
-    match r {
-        Refusal::Layout => Told {
-            number: 1,
-            waiting: 0,
-        },
-        Refusal::Counts => Told {
-            number: 2,
-            waiting: 0,
-        },
-        Refusal::Bodies => Told {
-            number: 3,
-            waiting: 0,
-        },
-        Refusal::Beyond => Told {
-            number: 4,
-            waiting: 0,
-        },
-        Refusal::Arrows => Told {
-            number: 5,
-            waiting: 0,
-        },
-        Refusal::Both => Told {
-            number: 6,
-            waiting: 0,
-        },
-        Refusal::Length => Told {
-            number: 7,
-            waiting: 0,
-        },
-        Refusal::Outside => Told {
-            number: 8,
-            waiting: 0,
-        },
-        Refusal::NoRank => Told {
-            number: 9,
-            waiting: 0,
-        },
-        Refusal::IllFormed => Told {
-            number: 10,
-            waiting: 0,
-        },
-        Refusal::Unknown => Told {
-            number: 11,
-            waiting: 0,
-        },
-        Refusal::NotHeld => Told {
-            number: 12,
-            waiting: 0,
-        },
-        Refusal::NotOnStep => Told {
-            number: 13,
-            waiting: 0,
-        },
-        Refusal::Excluded => Told {
-            number: 14,
-            waiting: 0,
-        },
-        Refusal::Waits(open) => Told {
-            number: 15,
-            waiting: open,
-        },
-        Refusal::NotApplied => Told {
-            number: 16,
-            waiting: 0,
-        },
-        Refusal::EmptyLap => Told {
-            number: 17,
-            waiting: 0,
-        },
-        Refusal::Room => Told {
-            number: 18,
-            waiting: 0,
-        },
-        Refusal::Store => Told {
-            number: 22,
-            waiting: 0,
-        },
-        Refusal::Arms => Told {
-            number: 30,
-            waiting: 0,
-        },
+    Told {
+        number: r.number(),
+        waiting: r.waiting(),
     }
 }

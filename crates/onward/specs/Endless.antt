@@ -2,16 +2,19 @@
 use Rattle.std.specs.Prelude.{ℕ, List, ◌≡◌}
 use Rattle.moves.specs.declared.Marking.{Marking}
 use Rattle.rules.specs.Graph.{Graph}
-use Rattle.laps.specs.declared.Lapped as answers
+use Rattle.laps.specs.Lapped as answers
 use Rattle.laps.specs.Laps.{LapAnswer, number_of_lap, waiting_of_lap, starved_of_lap, index_of_lap, pass_of_lap}
 use Rattle.onward.specs.declared.Lapped.{Lapped}
+use Rattle.std.specs.Prelude.{Ok, Err}
+use Rattle.laps.specs.declared.Endless.{Endless}
+use Rattle.laps.specs.declared.Broken.{Broken}
 
 -- accepted, starved, or neither
 unfoldable pub verdict_of_lap : answers.Lapped → ℕ
-verdict_of_lap answers.Lapped.Accepted = 1
-verdict_of_lap (answers.Lapped.Starved s) = 2
-verdict_of_lap (answers.Lapped.Refused r) = 0
-verdict_of_lap (answers.Lapped.Stopped k p r) = 0
+verdict_of_lap (Ok Endless.Accepted) = 1
+verdict_of_lap (Ok (Endless.Starved s)) = 2
+verdict_of_lap (Err (Broken.Refused r)) = 0
+verdict_of_lap (Err (Broken.Stopped k p r)) = 0
 
 abbrev pub lapped_of : answers.Lapped → Lapped
 lapped_of o =

@@ -3,8 +3,10 @@ use Rattle.std.specs.Prelude.{ℕ, cond, ltb}
 use Rattle.moves.specs.declared.Rank.{Rank}
 use Rattle.moves.specs.Move.{no_marking}
 use Rattle.tracker.specs.declared.Track as states
-use Rattle.tracker.specs.declared.Tracked.{Tracked}
+use Rattle.tracker.specs.Tracked.{Tracked}
 use Rattle.onward.specs.declared.Track.{Track}
+use Rattle.std.specs.Prelude.{Ok, Err}
+use Rattle.tracker.specs.declared.Unmoved.{Unmoved}
 
 -- a number beyond a byte is no step's rank, and neither is 0
 abbrev pub rank_in : ℕ → Rank
@@ -22,6 +24,6 @@ no_track = record { marking = no_marking; rank = 0; flag = 0 }
 
 -- the state after; zeros below 11; what was handed in from 11 on
 unfoldable pub track_of_tracked : Track → Tracked → Track
-track_of_tracked before (Tracked.At next) = track_out next
-track_of_tracked before (Tracked.Refused r) = no_track
-track_of_tracked before (Tracked.Stays t r) = before
+track_of_tracked before (Ok next) = track_out next
+track_of_tracked before (Err (Unmoved.Refused r)) = no_track
+track_of_tracked before (Err (Unmoved.Stays t r)) = before

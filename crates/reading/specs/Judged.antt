@@ -2,7 +2,7 @@
 use Rattle.std.specs.Prelude.{ℕ, zero, suc, ◌+◌, ◌≤◌, ◌<◌, ◌≡◌, refl, List, ◌∷◌, Bool, true, false, not, ◌&&◌, cond, replicate}
 use Rattle.std.proofs.Common.{sym, ap, ap₂, ◌∙◌, arith}
 use Rattle.sets.specs.Sets.{meet, empty, every}
-use Rattle.moves.specs.declared.Verdict.{Verdict}
+use Rattle.moves.specs.First.{Verdict}
 use Rattle.moves.specs.declared.Refusal.{Refusal}
 use Rattle.moves.specs.First.{Line, first}
 use Rattle.tables.specs.Tables.{row, kinds_apart}
@@ -13,22 +13,23 @@ use Rattle.arrows.specs.Loops.{filled, filled_all}
 use Rattle.arrows.specs.Rows.{kind_rows}
 use Rattle.reading.specs.Reading.{counts_of, arrows_on, block_read, kinds_right, read_verdict}
 use Rattle.reading.specs.Laws.{read_kind}
+use Rattle.std.specs.Prelude.{Ok, Err}
 
 -- what the reader finds: the first refusal that holds; and where none does, the table holds the arrows
 pub record Judged (s table : List ℕ) (v : Verdict) : Type 0 where
   pub right : v ≡ read_verdict s
-  pub filled : v ≡ Verdict.Clear → table ≡ table_of (arrows_on s)
+  pub filled : v ≡ Ok tt → table ≡ table_of (arrows_on s)
 
-pub refused : (s table : List ℕ) (r : Refusal) → read_verdict s ≡ Verdict.Refused r → Judged s table (Verdict.Refused r)
+pub refused : (s table : List ℕ) (r : Refusal) → read_verdict s ≡ Err r → Judged s table (Err r)
 refused s table r e = record { right = sym e; filled = λ q. absurd (let z : ◌≡◌ {A = ℕ} 0 1 = cc in let w : ⊥ = omega arith in w) }
 
 pub passed : (r : Refusal) (test : Bool) (rest : List Line) → test ≡ true → first ((r, not test) ∷ rest) ≡ first rest
 unfolding first
-passed r test rest e = ap (λ (b : Bool). cond (not b) (Verdict.Refused r) (first rest)) e
+passed r test rest e = ap (λ (b : Bool). cond (not b) (Err r) (first rest)) e
 
-pub failed : (r : Refusal) (test : Bool) (rest : List Line) → test ≡ false → first ((r, not test) ∷ rest) ≡ Verdict.Refused r
+pub failed : (r : Refusal) (test : Bool) (rest : List Line) → test ≡ false → first ((r, not test) ∷ rest) ≡ Err r
 unfolding first
-failed r test rest e = ap (λ (b : Bool). cond (not b) (Verdict.Refused r) (first rest)) e
+failed r test rest e = ap (λ (b : Bool). cond (not b) (Err r) (first rest)) e
 
 -- ---- 5
 

@@ -5,7 +5,7 @@ use mathlib.Core.List.{List, [], ◌++◌, tail}
 use Rattle.std.proofs.Math.Seq.{take_at, drop_at}
 use Rattle.std.proofs.lemmas.Bool.{not-false}
 use Rattle.sets.specs.Truth.{and_left, and_right}
-use Rattle.moves.specs.declared.Verdict.{Verdict}
+use Rattle.moves.specs.First.{Verdict}
 use Rattle.moves.specs.First.{first}
 use Rattle.moves.specs.Given.{clear_head, clear_tail}
 use Rattle.tables.specs.Tables.{table_at}
@@ -23,6 +23,7 @@ use Rattle.reading.specs.declared.Form.{Form}
 use Rattle.reading.specs.Reading.{six_bodies, five_bodies, is_six, form_of, labels_part, own_steps, labels_match}
 use Rattle.reading.specs.Reading.{counts_of, arrows_on, block_read, layout_fits, counts_right, bodies_match, sets_inside, arrows_right}
 use Rattle.reading.specs.Reading.{kinds_right, read_lines, read_verdict}
+use Rattle.std.specs.Prelude.{Ok}
 
 -- ---- the two forms
 
@@ -192,14 +193,14 @@ pub record Right (s : List ℕ) : Type 0 where
   pub arrows_in_lem : arrows_right s ≡ true
   pub kinds_in : kinds_right s ≡ true
 
-pub clear_right : (s : List ℕ) → read_verdict s ≡ Verdict.Clear → Right s
+pub clear_right : (s : List ℕ) → read_verdict s ≡ Ok tt → Right s
 unfolding read_verdict
 clear_right s e =
-    let e2 : first (tail (read_lines s)) ≡ Verdict.Clear = clear_tail _ _ e in
-    let e3 : first (tail (tail (read_lines s))) ≡ Verdict.Clear = clear_tail _ _ e2 in
-    let e4 : first (tail (tail (tail (read_lines s)))) ≡ Verdict.Clear = clear_tail _ _ e3 in
-    let e5 : first (tail (tail (tail (tail (read_lines s))))) ≡ Verdict.Clear = clear_tail _ _ e4 in
-    let e6 : first (tail (tail (tail (tail (tail (read_lines s)))))) ≡ Verdict.Clear = clear_tail _ _ e5 in
+    let e2 : first (tail (read_lines s)) ≡ (Ok tt) = clear_tail _ _ e in
+    let e3 : first (tail (tail (read_lines s))) ≡ (Ok tt) = clear_tail _ _ e2 in
+    let e4 : first (tail (tail (tail (read_lines s)))) ≡ (Ok tt) = clear_tail _ _ e3 in
+    let e5 : first (tail (tail (tail (tail (read_lines s))))) ≡ (Ok tt) = clear_tail _ _ e4 in
+    let e6 : first (tail (tail (tail (tail (tail (read_lines s)))))) ≡ (Ok tt) = clear_tail _ _ e5 in
     let counts : counts_right s ≡ true = not-false (counts_right s) (clear_head _ _ e2) in
     record {
       opened =

@@ -1,7 +1,7 @@
 -- What a sheet says, and when each number is given for reading it.
 use Rattle.std.specs.Prelude.{ℕ, ◌*◌, ◌%◌, List, [], ◌∷◌, ◌++◌, Bool, true, not, ◌&&◌, cond, length, get_or, eqb, leb}
 use Rattle.moves.specs.declared.Marking.{Marking}
-use Rattle.moves.specs.declared.Verdict.{Verdict}
+use Rattle.moves.specs.First.{Verdict}
 use Rattle.moves.specs.declared.Refusal.TheVariants.{Layout, Counts, Bodies, Beyond, Arrows, Both}
 use Rattle.moves.specs.First.{Line, first}
 use Rattle.moves.specs.Move.{marking_fits}

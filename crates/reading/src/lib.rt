@@ -2,7 +2,6 @@
 #![tactic(auto)]
 
 ghost use Rattle.std.specs.Prelude.{◌≡◌, ◌≤◌, true, length, get_or, replicate};
-ghost use Rattle.moves.specs.declared.Verdict.{Verdict};
 ghost use Rattle.arrows.specs.Arrows.{table_of};
 ghost use Rattle.numbers.specs.Numbers.{Spliced};
 ghost use Rattle.bodies.specs.Bodies.{labels_in};
@@ -159,35 +158,35 @@ fn kinds_right(s: &[u8], c: Counts, table: &[u64; 256]) -> bool
 }
 
 // Refusals 1 to 6. The table, empty at first, holds the arrows of a sheet that nothing is against.
-pub fn judge(s: &[u8], table: &mut [u64; 256]) -> Verdict
+pub fn judge(s: &[u8], table: &mut [u64; 256]) -> Result<(), Refusal>
     requires { table.old ≡ replicate 256 0 }
     ensures { Judged s.now table.new result }
 {
     if !layout_fits(s) {
-        return Verdict::Refused(Refusal::Layout);
+        return Err(Refusal::Layout);
     }
     let c = counts(s);
     if !tables::counts_fit(c.steps, c.people, c.roles, c.actions) {
-        return Verdict::Refused(Refusal::Counts);
+        return Err(Refusal::Counts);
     }
     if !bodies_match(s, c) {
-        return Verdict::Refused(Refusal::Bodies);
+        return Err(Refusal::Bodies);
     }
     if !sets_inside(s, c) {
-        return Verdict::Refused(Refusal::Beyond);
+        return Err(Refusal::Beyond);
     }
     if !arrows_right(s, c, table) {
-        return Verdict::Refused(Refusal::Arrows);
+        return Err(Refusal::Arrows);
     }
     if !kinds_right(s, c, table) {
-        return Verdict::Refused(Refusal::Both);
+        return Err(Refusal::Both);
     }
-    Verdict::Clear
+    Ok(())
 }
 
 // Fills the block with a sheet that nothing is against, word after word. The table holds the arrows.
 pub fn fill(s: &[u8], table: &[u64; 256], block: &mut [u64])
-    requires { (read_verdict s.now ≡ Verdict.Clear) × (length block.old ≡ 404) × (table.now ≡ table_of (arrows_on s.now)) }
+    requires { (read_verdict s.now ≡ Ok tt) × (length block.old ≡ 404) × (table.now ≡ table_of (arrows_on s.now)) }
     ensures { block.new ≡ block_read s.now }
 {
     let c = counts(s);

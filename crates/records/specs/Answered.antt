@@ -6,16 +6,18 @@ use Rattle.sets.specs.Truth.{and_right}
 use Rattle.sets.specs.Laws.{union_lt, minus_lt}
 use Rattle.moves.specs.declared.Marking.{Marking}
 use Rattle.moves.specs.declared.Refusal.TheVariants.{Counts, Outside, IllFormed, NotApplied}
-use Rattle.moves.specs.declared.Verdict.{Verdict}
+use Rattle.moves.specs.First.{Verdict}
 use Rattle.moves.specs.First.{first, number_of_verdict, number_of}
 use Rattle.moves.specs.Move.{within1to, marking_fits}
 use Rattle.moves.specs.Inside.{Inside}
 use Rattle.records.specs.declared.Record.{Record}
-use Rattle.records.specs.declared.Recorded.{Recorded}
-use Rattle.records.specs.declared.Applied.{Applied}
+use Rattle.records.specs.Answers.{Recorded}
+use Rattle.moves.specs.Move.{Move}
 use Rattle.records.specs.Records.{applies, gives, well_formed, join}
 use Rattle.records.specs.WellFormed.{Bounded}
 use Rattle.records.specs.Answers.{recorded_of, the_join, applied_of, applied_on, the_application, number_of_recorded, number_of_applied}
+use Rattle.std.specs.Prelude.{Ok, Err}
+use Rattle.moves.specs.Move.{denied}
 
 -- there are at most 64 steps
 pub counts_most : (n : ℕ) → within1to n 64 ≡ true → n ≤ 64
@@ -23,7 +25,7 @@ counts_most n e = leb-true n 64 (and_right (leb 1 n) (leb n 64) e)
 
 -- two well-formed records are joined
 pub joins : (n : ℕ) (a b : Record) → within1to n 64 ≡ true → well_formed n a ≡ true → well_formed n b ≡ true
-    → the_join n a b ≡ Recorded.Made (join a b)
+    → the_join n a b ≡ Ok (join a b)
 unfolding the_join recorded_of first
 joins n a b c p q = simp (c, p, q)
 
@@ -33,8 +35,8 @@ pub applies_on : (n : ℕ) (r : Record) (m : Marking) → within1to n 64 ≡ tru
 unfolding the_application applied_of first number_of
 applies_on n r m c f g = simp (c, f, g) (go (applies r m))
   where
-    go : (p : Bool) → applied_of (cond (not p) (Verdict.Refused NotApplied) Verdict.Clear) m (gives r m) ≡ cond p (Applied.Gives (gives r m))
-        (Applied.Refused m NotApplied)
+    go : (p : Bool) → applied_of (cond (not p) (Err NotApplied) (Ok tt)) m (gives r m) ≡ cond p (Ok (gives r m))
+        (Err (denied m NotApplied))
     go true = refl
     go false = refl
 
@@ -46,15 +48,15 @@ pub record Applying (n : ℕ) (r : Record) (m x : Marking) : Type 0 where
   pub suits : applies r m ≡ true
   pub given : gives r m ≡ x
 
-pub applying : (n : ℕ) (r : Record) (m x : Marking) → the_application n r m ≡ Applied.Gives x → Applying n r m x
+pub applying : (n : ℕ) (r : Record) (m x : Marking) → the_application n r m ≡ Ok x → Applying n r m x
 unfolding the_application applied_of first
 applying n r m x e = go (within1to n 64) (marking_fits n m) (well_formed n r) (applies r m) refl refl refl refl e
   where
     go : (c f g s : Bool) → within1to n 64 ≡ c → marking_fits n m ≡ f → well_formed n r ≡ g → applies r m ≡ s
-        → applied_of (cond (not c) (Verdict.Refused Counts)
-        (cond (not f) (Verdict.Refused Outside)
-        (cond (not g) (Verdict.Refused IllFormed) (cond (not s) (Verdict.Refused NotApplied) Verdict.Clear)))) m
-        (gives r m) ≡ Applied.Gives x
+        → applied_of (cond (not c) (Err Counts)
+        (cond (not f) (Err Outside)
+        (cond (not g) (Err IllFormed) (cond (not s) (Err NotApplied) (Ok tt))))) m
+        (gives r m) ≡ Ok x
         → Applying n r m x
     go true true true true c f g s q = record { counts = c; fits = f; good = g; suits = s; given = cc }
     go true true true false c f g s q = absurd (let z : ◌≡◌ {A = ℕ} 0 1 = cc in let w : ⊥ = omega arith in w)
@@ -62,9 +64,9 @@ applying n r m x e = go (within1to n 64) (marking_fits n m) (well_formed n r) (a
     go true false g' s' c f g s q = absurd (let z : ◌≡◌ {A = ℕ} 0 1 = cc in let w : ⊥ = omega arith in w)
     go false f' g' s' c f g s q = absurd (let z : ◌≡◌ {A = ℕ} 0 1 = cc in let w : ⊥ = omega arith in w)
 
-pub applied_of_lem : (n : ℕ) (r : Record) (m x : Marking) → Applying n r m x → the_application n r m ≡ Applied.Gives x
+pub applied_of_lem : (n : ℕ) (r : Record) (m x : Marking) → Applying n r m x → the_application n r m ≡ Ok x
 unfolding the_application applied_of first
-applied_of_lem n r m x a = simp (a.counts, a.fits, a.good, a.suits) (ap Applied.Gives a.given)
+applied_of_lem n r m x a = simp (a.counts, a.fits, a.good, a.suits) (ap Ok a.given)
 
 -- what a record gives stays within its steps
 pub gives_inside : (n : ℕ) (r : Record) (m : Marking) → Bounded n r → Inside n m → Inside n (gives r m)
@@ -79,10 +81,10 @@ gives_inside n r m b i =
 -- the number of an answer is the first that holds of its table
 pub number_recorded : (v : Verdict) (r : Record) → number_of_recorded (recorded_of v r) ≡ number_of_verdict v
 unfolding number_of_recorded recorded_of number_of_verdict
-number_recorded Verdict.Clear r = refl
-number_recorded (Verdict.Refused q) r = refl
+number_recorded (Ok _) r = refl
+number_recorded (Err q) r = refl
 
 pub number_applied : (v : Verdict) (m x : Marking) → number_of_applied (applied_of v m x) ≡ number_of_verdict v
 unfolding number_of_applied applied_of number_of_verdict
-number_applied Verdict.Clear m x = refl
-number_applied (Verdict.Refused q) m x = refl
+number_applied (Ok _) m x = refl
+number_applied (Err q) m x = refl

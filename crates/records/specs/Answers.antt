@@ -2,18 +2,19 @@
 use Rattle.std.specs.Prelude.{ℕ, List, [], ◌∷◌, not, ◌&&◌, cond, leb}
 use Rattle.moves.specs.declared.Marking.{Marking}
 use Rattle.moves.specs.declared.Refusal.TheVariants.{Counts, Outside, IllFormed, NotApplied}
-use Rattle.moves.specs.declared.Verdict.{Verdict}
+use Rattle.moves.specs.First.{Verdict}
 use Rattle.moves.specs.First.{Line, first, number_of}
 use Rattle.moves.specs.Move.{within1to, marking_fits, no_marking}
 use Rattle.records.specs.declared.Record.{Record}
-use Rattle.records.specs.declared.Recorded.{Recorded}
-use Rattle.records.specs.declared.Applied.{Applied}
+use Rattle.moves.specs.Move.{Move}
 use Rattle.records.specs.Records.{applies, gives, well_formed, join}
+use Rattle.std.specs.Prelude.{Ok, Err}
+use Rattle.moves.specs.Move.{denied}
 
 -- a record where nothing is against it; a refusal has no place for one
 unfoldable pub recorded_of : Verdict → Record → Recorded
-recorded_of Verdict.Clear r = Recorded.Made r
-recorded_of (Verdict.Refused q) r = Recorded.Refused q
+recorded_of (Ok _) r = Ok r
+recorded_of (Err q) r = Err q
 
 -- ---- join: 2, 10
 
@@ -34,28 +35,28 @@ apply_lines n r m =
     ∷ []
 
 -- 16 gives back the marking handed in; below 11 zeros
-unfoldable pub applied_of : Verdict → Marking → Marking → Applied
-applied_of Verdict.Clear before next = Applied.Gives next
-applied_of (Verdict.Refused q) before next = Applied.Refused (cond (leb 11 (number_of q)) before no_marking) q
+unfoldable pub applied_of : Verdict → Marking → Marking → Move
+applied_of (Ok _) before next = Ok next
+applied_of (Err q) before next = Err (denied (cond (leb 11 (number_of q)) before no_marking) q)
 
 -- a record that is well-formed at a marking that fits: 16
-abbrev pub applied_on : Record → Marking → Applied
-applied_on r m = cond (applies r m) (Applied.Gives (gives r m)) (Applied.Refused m NotApplied)
+abbrev pub applied_on : Record → Marking → Move
+applied_on r m = cond (applies r m) (Ok (gives r m)) (Err (denied m NotApplied))
 
-unfoldable pub the_application : ℕ → Record → Marking → Applied
+unfoldable pub the_application : ℕ → Record → Marking → Move
 the_application n r m = applied_of (first (apply_lines n r m)) m (gives r m)
 
 -- ---- number and values of each case: 0 where it is answered
 
 unfoldable pub number_of_recorded : Recorded → ℕ
-number_of_recorded (Recorded.Made r) = 0
-number_of_recorded (Recorded.Refused q) = number_of q
+number_of_recorded (Ok r) = 0
+number_of_recorded (Err q) = number_of q
 
-unfoldable pub number_of_applied : Applied → ℕ
-number_of_applied (Applied.Gives m) = 0
-number_of_applied (Applied.Refused m q) = number_of q
+unfoldable pub number_of_applied : Move → ℕ
+number_of_applied (Ok m) = 0
+number_of_applied (Err d) = number_of d.refusal
 
 -- the marking after, or what is given back
-unfoldable pub marking_of_applied : Applied → Marking
-marking_of_applied (Applied.Gives m) = m
-marking_of_applied (Applied.Refused m q) = m
+unfoldable pub marking_of_applied : Move → Marking
+marking_of_applied (Ok m) = m
+marking_of_applied (Err d) = d.marking

@@ -72,22 +72,22 @@ pub fn given(r: Record, m: Marking) -> Marking
 }
 
 // A well-formed record at a marking that fits. Refusal 16.
-pub fn applied(r: Record, m: Marking) -> Applied
+pub fn applied(r: Record, m: Marking) -> Result<Marking, Denied>
     ensures { result ≡ applied_on r m }
 {
     if !suits(r, m) {
-        return Applied::Refused(m, Refusal::NotApplied);
+        return Err(Denied { marking: m, refusal: Refusal::NotApplied });
     }
-    Applied::Gives(given(r, m))
+    Ok(given(r, m))
 }
 
 // A well-formed record at any marking. Refusals 8, 16.
-pub fn applied_at(n: u64, r: Record, m: Marking) -> Applied
+pub fn applied_at(n: u64, r: Record, m: Marking) -> Result<Marking, Denied>
     requires { (within1to n 64 ≡ true) × (well_formed n r ≡ true) }
     ensures { result ≡ the_application n r m }
 {
     if !moves::inner::fits(n, m) {
-        return Applied::Refused(NONE, Refusal::Outside);
+        return Err(Denied { marking: NONE, refusal: Refusal::Outside });
     }
     applied(r, m)
 }

@@ -51,31 +51,31 @@ impl Record {
     };
 
     // This record, then the other, for n steps. Refusals 2, 10.
-    pub fn join(self, other: Record, n: u64) -> Recorded
+    pub fn join(self, other: Record, n: u64) -> Result<Record, Refusal>
         ensures { result ≡ the_join n self other }
     {
         if !inner::counts(n) {
-            return Recorded::Refused(Refusal::Counts);
+            return Err(Refusal::Counts);
         }
         let good = inner::well_formed(n, self) & inner::well_formed(n, other);
         if !good {
-            return Recorded::Refused(Refusal::IllFormed);
+            return Err(Refusal::IllFormed);
         }
-        Recorded::Made(inner::joined(self, other))
+        Ok(inner::joined(self, other))
     }
 
     // This record at a marking of n steps. Refusals 2, 8, 10, 16.
-    pub fn apply(self, m: Marking, n: u64) -> Applied
+    pub fn apply(self, m: Marking, n: u64) -> Result<Marking, Denied>
         ensures { result ≡ the_application n self m }
     {
         if !inner::counts(n) {
-            return Applied::Refused(NONE, Refusal::Counts);
+            return Err(Denied { marking: NONE, refusal: Refusal::Counts });
         }
         if !moves::inner::fits(n, m) {
-            return Applied::Refused(NONE, Refusal::Outside);
+            return Err(Denied { marking: NONE, refusal: Refusal::Outside });
         }
         if !inner::well_formed(n, self) {
-            return Applied::Refused(NONE, Refusal::IllFormed);
+            return Err(Denied { marking: NONE, refusal: Refusal::IllFormed });
         }
         inner::applied(self, m)
     }

@@ -4,7 +4,7 @@
 use Rattle.std.specs.Prelude.{ℕ, zero, suc, ◌+◌, ◌/◌, ◌%◌, ◌≤◌, ◌≡◌, ◌↔◌, List, [], ◌∷◌, ◌++◌, map, Bool, true, false, length, get_or}
 use Rattle.std.proofs.Common.{sym, ap, ◌∙◌, subst, arith}
 use Rattle.moves.specs.declared.Marking.{Marking}
-use Rattle.moves.specs.declared.Verdict.{Verdict}
+use Rattle.moves.specs.First.{Verdict}
 use Rattle.moves.specs.First.{first}
 use Rattle.tables.specs.Tables.{row}
 use Rattle.rules.specs.Graph.{Graph, graph_of}
@@ -18,6 +18,7 @@ use Rattle.writing.specs.Writing.{arrow_table, bodies_of, sheet_bytes, content_l
 use Rattle.rounds.specs.Says.{Says}
 use Rattle.rounds.specs.Read.{read_written}
 use Rattle.rounds.specs.Write.{sheet_six, one_sheet}
+use Rattle.std.specs.Prelude.{Ok}
 
 -- ---- what is written is bytes
 
@@ -89,7 +90,7 @@ sheet_is_bytes g m =
 
 -- ---- exactly one sheet
 
-pub exactly_one : (block : List ℕ) (m : Marking) → length block ≡ 404 → first (content_lines (graph_of block) m) ≡ Verdict.Clear
+pub exactly_one : (block : List ℕ) (m : Marking) → length block ≡ 404 → first (content_lines (graph_of block) m) ≡ Ok tt
     → (s : List ℕ)
     → (Bytes s × (is_six s ≡ true) × Says s block m) ↔ (s ≡ sheet_bytes (graph_of block) m)
 exactly_one block m whole e s = (

@@ -2,7 +2,7 @@
 -- written with six, and what was written is read back; and its graph has every step for its own action. Assumes nothing.
 use Rattle.std.specs.Prelude.{ℕ, ◌<◌, ◌≡◌, List, Bool, false, cond}
 use Rattle.std.proofs.Common.{ap, ◌∙◌, arith, lt-ltb}
-use Rattle.moves.specs.declared.Verdict.{Verdict}
+use Rattle.moves.specs.First.{Verdict}
 use Rattle.tables.specs.Tables.{row}
 use Rattle.rules.specs.Graph.{action_of}
 use Rattle.bodies.specs.Tables.{row_tabled}
@@ -14,9 +14,10 @@ use Rattle.writing.specs.Writing.{sheet_bytes}
 use Rattle.rounds.specs.Says.{Says}
 use Rattle.rounds.specs.Read.{read_written}
 use Rattle.rounds.specs.Write.{five_actions, read_content}
+use Rattle.std.specs.Prelude.{Ok}
 
 -- a sheet of either form reads as what is written of it does
-pub five_as_six : (s : List ℕ) → read_verdict s ≡ Verdict.Clear → Says (sheet_bytes (graph_in s) (first_of s)) (block_read s) (first_of s)
+pub five_as_six : (s : List ℕ) → read_verdict s ≡ Ok tt → Says (sheet_bytes (graph_in s) (first_of s)) (block_read s) (first_of s)
 five_as_six s e = read_written (block_read s) (first_of s) (length_read s) (read_content s e)
 
 -- of five bodies there are as many actions as steps
@@ -25,7 +26,7 @@ unfolding block_read
 five_counts s five = five_actions s five
 
 -- and every step is its own
-pub five_own : (s : List ℕ) → read_verdict s ≡ Verdict.Clear → is_six s ≡ false → (k : ℕ) → k < (graph_in s).steps → action_of (graph_in s) k ≡ k
+pub five_own : (s : List ℕ) → read_verdict s ≡ Ok tt → is_six s ≡ false → (k : ℕ) → k < (graph_in s).steps → action_of (graph_in s) k ≡ k
 unfolding block_read
 five_own s e five k h =
     let few = (clear_right s e).opened.counted.steps_most in

@@ -7,7 +7,7 @@ use Rattle.sets.specs.Sets.{has, full, meet, empty, every}
 use Rattle.sets.specs.Truth.{and_intro}
 use Rattle.sets.specs.Laws.{has_meet, empty_members, every_at}
 use Rattle.moves.specs.declared.Marking.{Marking}
-use Rattle.moves.specs.declared.Verdict.{Verdict}
+use Rattle.moves.specs.First.{Verdict}
 use Rattle.moves.specs.First.{first}
 use Rattle.moves.specs.Move.{no_marking}
 use Rattle.tables.specs.Tables.{row, keeps, labels_fit}
@@ -22,6 +22,7 @@ use Rattle.reading.specs.Laws.{clear_right, form_five}
 use Rattle.writing.specs.Writing.{arrow_table, sheet_bytes, content_lines}
 use Rattle.writing.specs.Laws.{Fitting, clear_fitting, graph_clear, turned_of, table_kept, kind_lies}
 use Rattle.writing.specs.Parts.{arrows_out, length_out, sheet_length}
+use Rattle.std.specs.Prelude.{Ok}
 
 -- two tables that share no pair have no more arrows than one may have
 count_apart : (n : ℕ) (p q : ℕ → ℕ) → ((a : ℕ) → a < n → empty (meet (p a) (q a)) ≡ true) → count_of n p + count_of n q ≤ 64 * n
@@ -35,13 +36,13 @@ count_apart (suc n) p q apart =
     omega arith
 
 -- how long the arrows are, kind by kind
-arrows_long : (block : List ℕ) (m : Marking) → first (content_lines (graph_of block) m) ≡ Verdict.Clear
+arrows_long : (block : List ℕ) (m : Marking) → first (content_lines (graph_of block) m) ≡ Ok tt
     → length (arrows_out (graph_of block)) ≡ 3 * count_kinds 4 (row block 0) (turned_of (graph_of block)) (arrow_table (graph_of block))
 arrows_long block m e =
     let g : Graph = graph_of block in
     length_body (row block 0) (turned_of g) (arrow_table g) (table_kept block (graph_clear g m e)) refl
 
-pub below_longest : (block : List ℕ) (m : Marking) → first (content_lines (graph_of block) m) ≡ Verdict.Clear
+pub below_longest : (block : List ℕ) (m : Marking) → first (content_lines (graph_of block) m) ≡ Ok tt
     → length (sheet_bytes (graph_of block) m) < 37148
 unfolding count_kinds from_rows
 below_longest block m e =
@@ -68,11 +69,11 @@ below_longest block m e =
     let actions : row block 3 ≤ 64 = f.counted.actions_most in
     omega arith
 
-pub longest : (block : List ℕ) (m : Marking) → first (content_lines (graph_of block) m) ≡ Verdict.Clear
+pub longest : (block : List ℕ) (m : Marking) → first (content_lines (graph_of block) m) ≡ Ok tt
     → length (sheet_bytes (graph_of block) m) ≤ 37147
 longest block m e = let below : length (sheet_bytes (graph_of block) m) < 37148 = below_longest block m e in omega arith
 
-pub shortest : (block : List ℕ) (m : Marking) → first (content_lines (graph_of block) m) ≡ Verdict.Clear
+pub shortest : (block : List ℕ) (m : Marking) → first (content_lines (graph_of block) m) ≡ Ok tt
     → 64 ≤ length (sheet_bytes (graph_of block) m)
 shortest block m e =
     let g : Graph = graph_of block in
@@ -84,7 +85,7 @@ shortest block m e =
     omega arith
 
 -- of five bodies
-pub longest_five : (s : List ℕ) → read_verdict s ≡ Verdict.Clear → is_six s ≡ false → length s ≤ 37077
+pub longest_five : (s : List ℕ) → read_verdict s ≡ Ok tt → is_six s ≡ false → length s ≤ 37077
 longest_five s e five = subst (λ (f : Form). length s ≤ f.most) (form_five s five) (clear_right s e).opened.placed.short
 
 -- ---- and it is reached
@@ -94,7 +95,7 @@ longest_five s e five = subst (λ (f : Form). length s ≤ f.most) (form_five s 
 unfoldable pub longest_block : List ℕ
 longest_block = 64 ∷ 16 ∷ 16 ∷ 64 ∷ (replicate 192 (full 64) ++ replicate 208 0)
 
-pub longest_clear : first (content_lines (graph_of longest_block) no_marking) ≡ Verdict.Clear
+pub longest_clear : first (content_lines (graph_of longest_block) no_marking) ≡ Ok tt
 unfolding longest_block first sets_fit keeps labels_fit every full
 longest_clear = refl
 

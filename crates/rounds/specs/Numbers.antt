@@ -3,7 +3,7 @@
 use Rattle.std.specs.Prelude.{ℕ, ◌<◌, ◌≡◌, refl, ◌↔◌, List, true, false, not, ◌&&◌, length, ltb}
 use Rattle.std.proofs.Math.Path.{ap}
 use Rattle.moves.specs.declared.Marking.{Marking}
-use Rattle.moves.specs.declared.Verdict.{Verdict}
+use Rattle.moves.specs.First.{Verdict}
 use Rattle.moves.specs.First.{number_of_verdict, number_of}
 use Rattle.rules.specs.Graph.{Graph, sets_fit}
 use Rattle.tables.specs.Tables.{counts_fit, kinds_apart}
@@ -13,6 +13,7 @@ use Rattle.reading.specs.Reading.{graph_in, layout_fits, counts_right, bodies_ma
 use Rattle.writing.specs.Writing.{sheet_bytes}
 use Rattle.sheet.specs.Sheet.{write_lines, write_verdict, written_of, the_written, number_of_written, length_of_written}
 use Rattle.sets.specs.Truth.{or_false}
+use Rattle.std.specs.Prelude.{Ok, Err}
 
 -- ---- reading
 
@@ -62,8 +63,8 @@ write_up g m room = refl
 
 written_of_lem : (v : Verdict) (size : ℕ) → number_of_written (written_of v size) ≡ number_of_verdict v
 unfolding number_of_written written_of number_of_verdict
-written_of_lem Verdict.Clear size = refl
-written_of_lem (Verdict.Refused r) size = refl
+written_of_lem (Ok _) size = refl
+written_of_lem (Err r) size = refl
 
 module _ (g : Graph) (m : Marking) (room : ℕ) where
   pub write_exactly : (k : ℕ) → 0 < k → (number_of_verdict (write_verdict g m room) ≡ k) ↔ Lowest k (write_lines g m room)
@@ -94,6 +95,6 @@ module _ (g : Graph) (m : Marking) (room : ℕ) where
   pub written_number : number_of_written (the_written g m room) ≡ number_of_verdict (write_verdict g m room)
   written_number = written_of_lem (write_verdict g m room) (length (sheet_bytes g m))
 
-  pub written_length : write_verdict g m room ≡ Verdict.Clear → length_of_written (the_written g m room) ≡ length (sheet_bytes g m)
+  pub written_length : write_verdict g m room ≡ Ok tt → length_of_written (the_written g m room) ≡ length (sheet_bytes g m)
   unfolding length_of_written written_of
   written_length e = ap (λ (v : Verdict). length_of_written (written_of v (length (sheet_bytes g m)))) e

@@ -6,7 +6,7 @@ use Rattle.std.proofs.Common.{sym, ap, ap₂, ◌∙◌, subst, lt_of_lt_of_le, 
 use Rattle.std.proofs.lemmas.Bool.{not-false}
 use Rattle.sets.specs.Truth.{and_left, and_intro}
 use Rattle.moves.specs.declared.Marking.{Marking}
-use Rattle.moves.specs.declared.Verdict.{Verdict}
+use Rattle.moves.specs.First.{Verdict}
 use Rattle.moves.specs.First.{first}
 use Rattle.moves.specs.Given.{clear_head}
 use Rattle.moves.specs.Inside.{Inside, fits_inside}
@@ -36,6 +36,7 @@ use Rattle.bodies.specs.Markings.{marking_read}
 use Rattle.rounds.specs.Bodies.{counts_read, rows_read, kept_roles, roles_fit_lem, kept_labels, labels_rows, labels_fit_lem}
 use Rattle.rounds.specs.Arrows.{table_fit, table_read}
 use Rattle.rounds.specs.Longest.{below_longest, shortest}
+use Rattle.std.specs.Prelude.{Ok}
 
 -- the contents fit, and lead to the bodies of the graph and the marking
 record Carries (g : Graph) (m : Marking) (s : List ℕ) : Type 0 where
@@ -49,7 +50,7 @@ record Carries (g : Graph) (m : Marking) (s : List ℕ) : Type 0 where
   five : body_at s 4 ≡ arrows_body (arrow_table g)
   six : body_at s 5 ≡ labels_body g.steps g.labels
 
-carried : (block : List ℕ) (m : Marking) → first (content_lines (graph_of block) m) ≡ Verdict.Clear
+carried : (block : List ℕ) (m : Marking) → first (content_lines (graph_of block) m) ≡ Ok tt
     → Carries (graph_of block) m (sheet_bytes (graph_of block) m)
 unfolding sheet_bytes bodies_from
 carried block m e =
@@ -72,7 +73,7 @@ carried block m e =
       six = ap (λ (l : List (List ℕ)). get_or l 5 []) bodies;
     }
 
-module _ (block : List ℕ) (m : Marking) (whole : length block ≡ 404) (e : first (content_lines (graph_of block) m) ≡ Verdict.Clear)
+module _ (block : List ℕ) (m : Marking) (whole : length block ≡ 404) (e : first (content_lines (graph_of block) m) ≡ Ok tt)
     (s : List ℕ) (k : Carries (graph_of block) m s) where
   abbrev g : Graph
   g = graph_of block
@@ -212,12 +213,12 @@ module _ (block : List ℕ) (m : Marking) (whole : length block ≡ 404) (e : fi
   kinds_right_lem =
       ap (λ (l : List ℕ). kinds_apart (graph_of l).steps (graph_of l).includes (graph_of l).excludes) block_back ∙ fitting.apart
 
-  read_clear : read_verdict s ≡ Verdict.Clear
+  read_clear : read_verdict s ≡ Ok tt
   unfolding read_verdict first
   read_clear = simp (layout_fits_lem, counts_right_lem, bodies_match_lem, sets_inside_lem, arrows_right_lem, kinds_right_lem)
 
 -- what was written is read back
-pub read_written : (block : List ℕ) (m : Marking) → length block ≡ 404 → first (content_lines (graph_of block) m) ≡ Verdict.Clear
+pub read_written : (block : List ℕ) (m : Marking) → length block ≡ 404 → first (content_lines (graph_of block) m) ≡ Ok tt
     → Says (sheet_bytes (graph_of block) m) block m
 read_written block m whole e =
     let s : List ℕ = sheet_bytes (graph_of block) m in

@@ -3,7 +3,7 @@
 use Rattle.std.specs.Prelude.{ℕ, ◌≡◌, refl, List, [], ◌∷◌, ◌++◌, length, replicate}
 use Rattle.sets.specs.Sets.{has, every}
 use Rattle.moves.specs.declared.Marking.{Marking}
-use Rattle.moves.specs.declared.Verdict.{Verdict}
+use Rattle.moves.specs.First.{Verdict}
 use Rattle.moves.specs.First.{first}
 use Rattle.tables.specs.Tables.{keeps, labels_fit}
 use Rattle.rules.specs.Graph.{graph_of, sets_fit}
@@ -15,6 +15,7 @@ use Rattle.bodies.specs.Bodies.{rows_body, role_sets_fit, actions_fit}
 use Rattle.reading.specs.Reading.{form_of, labels_part, own_steps, layout_fits, read_verdict, block_read}
 use Rattle.writing.specs.Writing.{sheet_bytes, content_lines}
 use Rattle.rounds.specs.Says.{Says}
+use Rattle.std.specs.Prelude.{Ok}
 
 -- 06 01 1F 00 04 00 02 23 00 18 00 03 3B 00 02 00 04 3D 00 02 00 05 3F 00 00 00 06 3F 00 01 00,
 -- then 01 01 01 01, sixteen bytes 00, 01 and seven 00, 01 00, 01 00, 00
@@ -42,7 +43,7 @@ pub smallest_long : length smallest ≡ 64
 unfolding smallest
 smallest_long = refl
 
-pub smallest_clear : first (content_lines (graph_of smallest_block) smallest_marking) ≡ Verdict.Clear
+pub smallest_clear : first (content_lines (graph_of smallest_block) smallest_marking) ≡ Ok tt
 unfolding smallest_block smallest_marking first sets_fit keeps labels_fit every
 smallest_clear = refl
 

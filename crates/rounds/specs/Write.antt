@@ -10,7 +10,7 @@ use Rattle.std.proofs.Math.ListN.{length}
 use borrow.Author.Tests.{not-false}
 use Rattle.sets.specs.Truth.{and_left, and_right, and_intro}
 use Rattle.moves.specs.declared.Marking.{Marking}
-use Rattle.moves.specs.declared.Verdict.{Verdict}
+use Rattle.moves.specs.First.{Verdict}
 use Rattle.moves.specs.First.{first}
 use Rattle.moves.specs.Given.{clear_head, clear_tail}
 use Rattle.moves.specs.Move.{marking_fits}
@@ -33,7 +33,7 @@ use Rattle.reading.specs.Laws.{Right, Placed, clear_right, part_length, body_len
 use Rattle.reading.specs.Laws.{form_six, form_five, labels_six, labels_five, own_six, own_five}
 use Rattle.reading.specs.Laws.{read_arrows, read_kind, read_allows, read_holds, read_labels}
 use Rattle.writing.specs.Writing.{arrow_table, bodies_of, sheet_bytes, content_lines}
-use Rattle.sheet.specs.declared.Written.{Written}
+use Rattle.sheet.specs.Sheet.{Written}
 use Rattle.sheet.specs.Sheet.{the_written, room_after}
 use Rattle.sheet.specs.Laws.{clear_after}
 use Rattle.rounds.specs.Says.{Says}
@@ -42,6 +42,7 @@ use Rattle.rounds.specs.Bodies.{counts_written, rows_written, roles_kept}
 use Rattle.rounds.specs.Bodies.{labels_rows, labels_kept, labels_own}
 use Rattle.rounds.specs.Arrows.{filled_kept}
 use Rattle.rounds.specs.Read.{read_written}
+use Rattle.std.specs.Prelude.{Ok}
 
 -- what is written has six bodies
 pub sheet_six : (g : Graph) (m : Marking) → is_six (sheet_bytes g m) ≡ true
@@ -52,7 +53,7 @@ sheet_six g m = refl
 pub five_actions : (s : List ℕ) → is_six s ≡ false → (counts_of s).actions ≡ (counts_of s).steps
 five_actions s five = ap (λ (f : Form). get_or (body_at s 0) f.actions 0) (form_five s five)
 
-module _ (s : List ℕ) (e : read_verdict s ≡ Verdict.Clear) where
+module _ (s : List ℕ) (e : read_verdict s ≡ Ok tt) where
   right : Right s
   right = clear_right s e
 
@@ -144,7 +145,7 @@ module _ (s : List ℕ) (e : read_verdict s ≡ Verdict.Clear) where
   unfolding read_verdict
   counts_fit_lem = not-false (counts_right s) (clear_head _ _ (clear_tail _ _ e))
 
-  pub read_content : first (content_lines (graph_in s) (first_of s)) ≡ Verdict.Clear
+  pub read_content : first (content_lines (graph_in s) (first_of s)) ≡ Ok tt
   unfolding first block_read
   read_content = simp (counts_fit_lem, sets_fit_lem, marking_kept, right.kinds_in)
 
@@ -205,18 +206,18 @@ module _ (s : List ℕ) (e : read_verdict s ≡ Verdict.Clear) where
 
     -- into room enough: the length is answered, and the room begins with the sheet
     pub write_again : (old : List ℕ) → length s ≤ length old
-        → (the_written (graph_in s) (first_of s) (length old) ≡ Written.Length (length s))
+        → (the_written (graph_in s) (first_of s) (length old) ≡ Ok (length s))
         × (room_after (graph_in s) (first_of s) old ≡ s ++ drop (length s) old)
     write_again old h =
         let after = clear_after (graph_in s) (first_of s) old read_content
         (subst (λ (t : List ℕ). length t ≤ length old) (sym write_read) h) in (
-          after.0 ∙ ap (λ (t : List ℕ). Written.Length (length t)) write_read,
+          after.0 ∙ ap (λ (t : List ℕ). Ok (length t)) write_read,
           after.1
               ∙ ap (λ (t : List ℕ). t ++ drop (length t) old) write_read,
         )
 
 -- what was read is written back exactly if it has six bodies
-pub write_read_exactly : (s : List ℕ) → read_verdict s ≡ Verdict.Clear → Bytes s
+pub write_read_exactly : (s : List ℕ) → read_verdict s ≡ Ok tt → Bytes s
     → (sheet_bytes (graph_in s) (first_of s) ≡ s) ↔ (is_six s ≡ true)
 write_read_exactly s e b = (λ same. ap is_six (sym same) ∙ sheet_six (graph_in s) (first_of s), λ six. write_read s e six b)
 
@@ -234,7 +235,7 @@ same_sheet s t block m b c six too p q = one_sheet s block m b six p ∙ sym (on
 
 -- two jobs with their first markings that have one sheet are the same
 pub same_graph : (a b : List ℕ) (m w : Marking) → length a ≡ 404 → length b ≡ 404
-    → first (content_lines (graph_of a) m) ≡ Verdict.Clear → first (content_lines (graph_of b) w) ≡ Verdict.Clear
+    → first (content_lines (graph_of a) m) ≡ Ok tt → first (content_lines (graph_of b) w) ≡ Ok tt
     → sheet_bytes (graph_of a) m ≡ sheet_bytes (graph_of b) w → (a ≡ b) × (m ≡ w)
 same_graph a b m w la lb p q e =
     let x : Says (sheet_bytes (graph_of a) m) a m = read_written a m la p in

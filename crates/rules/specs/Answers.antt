@@ -7,12 +7,12 @@ use Rattle.moves.specs.declared.Marking.{Marking}
 use Rattle.moves.specs.declared.Entry.{Entry}
 use Rattle.moves.specs.declared.Refusal.{Refusal}
 use Rattle.moves.specs.declared.Refusal.TheVariants.{Unknown}
-use Rattle.moves.specs.declared.Verdict.{Verdict}
-use Rattle.moves.specs.declared.Asked.{Asked}
-use Rattle.moves.specs.declared.Move.{Move}
+use Rattle.moves.specs.First.{Verdict}
+use Rattle.moves.specs.Move.{Move}
 use Rattle.rules.specs.declared.Ending.{Ending}
 use Rattle.moves.specs.First.{Line, first, number_of}
-use Rattle.moves.specs.Move.{after, is_finished, size_lines, row_lines, asked_of, move_of}
+use Rattle.moves.specs.Move.{after, is_finished, size_lines, row_lines, move_of}
+use Rattle.std.specs.Prelude.{Ok, Err, Result}
 
 -- what person p and step s meet of the graph: {r | p as r}, {r | s as r}, {a | a →• s}, {b | s •→ b}, {b | s →+ b}, {b | s →% b}
 abbrev pub row_of : Graph → ℕ → ℕ → Row
@@ -48,44 +48,44 @@ abbrev pub after_entry : Graph → Marking → Entry → Marking
 after_entry g m e = after (row_of g e.person e.step.0) m e.step.0
 
 -- any entry on anything: is it allowed?
-unfoldable pub the_asked : Graph → Marking → Entry → Asked
-the_asked g m e = asked_of (first (move_lines g m e))
+unfoldable pub the_asked : Graph → Marking → Entry → Verdict
+the_asked g m e = (first (move_lines g m e))
 
 -- and taken: ask, and if it is allowed the marking after
 unfoldable pub the_move : Graph → Marking → Entry → Move
 the_move g m e = move_of (the_asked g m e) m (after_entry g m e)
 
-unfoldable pub ending_of : Verdict → Bool → Ending
-ending_of Verdict.Clear done = cond done Ending.Finished Ending.Open
-ending_of (Verdict.Refused r) done = Ending.Refused r
+unfoldable pub ending_of : Verdict → Bool → Result Ending Refusal
+ending_of (Ok _) done = cond done (Ok Ending.Finished) (Ok Ending.Open)
+ending_of (Err r) done = Err r
 
 -- is the job finished?
-unfoldable pub the_ending : Graph → Marking → Ending
+unfoldable pub the_ending : Graph → Marking → Result Ending Refusal
 the_ending g m = ending_of (first (graph_lines g ++ marking_lines g m)) (is_finished m)
 
 -- ---- number and values of each case
 
 -- 0 where the job is finished or not
-unfoldable pub number_of_ending : Ending → ℕ
-number_of_ending Ending.Finished = 0
-number_of_ending Ending.Open = 0
-number_of_ending (Ending.Refused r) = number_of r
+unfoldable pub number_of_ending : (Result Ending Refusal) → ℕ
+number_of_ending (Ok Ending.Finished) = 0
+number_of_ending (Ok Ending.Open) = 0
+number_of_ending (Err r) = number_of r
 
 -- ---- the same on a graph, and then a marking, that are as they should be: what the calls go by inside
 
-unfoldable pub asked_on : Graph → Marking → Entry → Asked
-asked_on g m e = asked_of (first (marking_lines g m ++ entry_lines g m e))
+unfoldable pub asked_on : Graph → Marking → Entry → Verdict
+asked_on g m e = (first (marking_lines g m ++ entry_lines g m e))
 
-unfoldable pub entry_asked : Graph → Marking → Entry → Asked
-entry_asked g m e = asked_of (first (entry_lines g m e))
+unfoldable pub entry_asked : Graph → Marking → Entry → Verdict
+entry_asked g m e = (first (entry_lines g m e))
 
 unfoldable pub entry_move : Graph → Marking → Entry → Move
 entry_move g m e = move_of (entry_asked g m e) m (after_entry g m e)
 
 -- the refusal of an entry that is not allowed; of one that is, nobody asks
-unfoldable pub refusal_in : Asked → Refusal
-refusal_in Asked.Allowed = Unknown
-refusal_in (Asked.Refused r) = r
+unfoldable pub refusal_in : Verdict → Refusal
+refusal_in (Ok _) = Unknown
+refusal_in (Err r) = r
 
-unfoldable pub ending_on : ℕ → Marking → Ending
+unfoldable pub ending_on : ℕ → Marking → Result Ending Refusal
 ending_on n m = ending_of (first (size_lines n m)) (is_finished m)

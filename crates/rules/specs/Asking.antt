@@ -8,55 +8,48 @@ use Rattle.rules.specs.Graph.{Graph, graph_lines, graph_verdict}
 use Rattle.moves.specs.declared.Marking.{Marking}
 use Rattle.moves.specs.declared.Entry.{Entry}
 use Rattle.moves.specs.declared.Refusal.{Refusal}
-use Rattle.moves.specs.declared.Verdict.{Verdict}
-use Rattle.moves.specs.declared.Asked.{Asked}
-use Rattle.moves.specs.declared.Move.{Move}
+use Rattle.moves.specs.First.{Verdict}
+use Rattle.moves.specs.Move.{Move}
 use Rattle.moves.specs.First.{first, number_of_verdict}
-use Rattle.moves.specs.Move.{asked_of, move_of, given_back, number_of_asked, waiting_of_asked, number_of_move, waiting_of_move}
+use Rattle.moves.specs.Move.{move_of, given_back, number_of_asked, waiting_of_asked, number_of_move, waiting_of_move}
 use Rattle.moves.specs.Given.{clear_head, clear_tail, clear_front, clear_back}
 use Rattle.rules.specs.Answers.{the_asked, the_move, after_entry, move_lines, marking_lines, entry_lines, entry_known, entry_asked}
+use Rattle.std.specs.Prelude.{Ok, Err}
+use Rattle.moves.specs.declared.Denied.{Denied}
+use Rattle.moves.specs.Move.{denied}
 
 -- ---- what an answer says of the table, and a move of what was asked
 
-pub allowed_of : (v : Verdict) → asked_of v ≡ Asked.Allowed → v ≡ Verdict.Clear
-unfolding asked_of
-allowed_of Verdict.Clear e = refl
-allowed_of (Verdict.Refused r) e = absurd (let z : ◌≡◌ {A = ℕ} 0 1 = cc in let w : ⊥ = omega arith in w)
-
-pub refused_of : (v : Verdict) (r : Refusal) → asked_of v ≡ Asked.Refused r → v ≡ Verdict.Refused r
-unfolding asked_of
-refused_of Verdict.Clear r e = absurd (let z : ◌≡◌ {A = ℕ} 0 1 = cc in let w : ⊥ = omega arith in w)
-refused_of (Verdict.Refused q) r e = let same : q ≡ r = cc in ap Verdict.Refused same
-
-pub moved_by : (o : Asked) (m a next : Marking) → move_of o m a ≡ Move.Moved next → (o ≡ Asked.Allowed) × (a ≡ next)
+pub moved_by : (o : Verdict) (m a next : Marking) → move_of o m a ≡ Ok next → (o ≡ Ok tt) × (a ≡ next)
 unfolding move_of
-moved_by Asked.Allowed m a next e = (refl, cc)
-moved_by (Asked.Refused r) m a next e = absurd (let z : ◌≡◌ {A = ℕ} 0 1 = cc in let w : ⊥ = omega arith in w)
+moved_by (Ok _) m a next e = (refl, cc)
+moved_by (Err r) m a next e = absurd (let z : ◌≡◌ {A = ℕ} 0 1 = cc in let w : ⊥ = omega arith in w)
 
-pub refused_by : (o : Asked) (m a back : Marking) (r : Refusal) → move_of o m a ≡ Move.Refused back r
-    → (o ≡ Asked.Refused r) × (given_back m r ≡ back)
+pub refused_by : (o : Verdict) (m a back : Marking) (r : Refusal) → move_of o m a ≡ Err (denied back r)
+    → (o ≡ Err r) × (given_back m r ≡ back)
 unfolding move_of
-refused_by Asked.Allowed m a back r e = absurd (let z : ◌≡◌ {A = ℕ} 0 1 = cc in let w : ⊥ = omega arith in w)
-refused_by (Asked.Refused q) m a back r e =
-    let same : q ≡ r = cc in
-    (ap Asked.Refused same, subst (λ (p : Refusal). given_back m p ≡ back) same (cc))
+refused_by (Ok _) m a back r e = absurd (let z : ◌≡◌ {A = ℕ} 0 1 = cc in let w : ⊥ = omega arith in w)
+refused_by (Err q) m a back r e =
+    let same : denied (given_back m q) q ≡ denied back r = cc in
+    let told : q ≡ r = ap (λ (d : Denied). d.refusal) same in
+    (ap Err told, subst (λ (p : Refusal). given_back m p ≡ back) told (ap (λ (d : Denied). d.marking) same))
 
 -- ---- the laws
 
 module _ (g : Graph) (m : Marking) (e : Entry) where
   -- an entry is allowed exactly if it is taken
-  pub asked_taken : (the_asked g m e ≡ Asked.Allowed) ↔ ((next : Marking) × (the_move g m e ≡ Move.Moved next))
+  pub asked_taken : (the_asked g m e ≡ Ok tt) ↔ ((next : Marking) × (the_move g m e ≡ Ok next))
   unfolding the_move move_of
   asked_taken = (
-    λ q. (after_entry g m e, ap (λ (o : Asked). move_of o m (after_entry g m e)) q),
+    λ q. (after_entry g m e, ap (λ (o : Verdict). move_of o m (after_entry g m e)) q),
     λ t. (moved_by (the_asked g m e) m (after_entry g m e) t.0 t.1).0,
   )
 
   -- and refused by the one exactly as by the other
-  pub asked_refuses : (r : Refusal) → (the_asked g m e ≡ Asked.Refused r) ↔ ((back : Marking) × (the_move g m e ≡ Move.Refused back r))
+  pub asked_refuses : (r : Refusal) → (the_asked g m e ≡ Err r) ↔ ((back : Marking) × (the_move g m e ≡ Err (denied back r)))
   unfolding the_move move_of
   asked_refuses r = (
-    λ q. (given_back m r, ap (λ (o : Asked). move_of o m (after_entry g m e)) q),
+    λ q. (given_back m r, ap (λ (o : Verdict). move_of o m (after_entry g m e)) q),
     λ t. (refused_by (the_asked g m e) m (after_entry g m e) t.0 r t.1).0,
   )
 
@@ -65,37 +58,37 @@ module _ (g : Graph) (m : Marking) (e : Entry) where
   unfolding the_move move_of number_of_asked number_of_move
   asked_number = go (the_asked g m e)
     where
-      go : (o : Asked) → number_of_asked o ≡ number_of_move (move_of o m (after_entry g m e))
-      go Asked.Allowed = refl
-      go (Asked.Refused r) = refl
+      go : (o : Verdict) → number_of_asked o ≡ number_of_move (move_of o m (after_entry g m e))
+      go (Ok _) = refl
+      go (Err r) = refl
 
   -- and the same set
   pub asked_waiting : waiting_of_asked (the_asked g m e) ≡ waiting_of_move (the_move g m e)
   unfolding the_move move_of waiting_of_asked waiting_of_move
   asked_waiting = go (the_asked g m e)
     where
-      go : (o : Asked) → waiting_of_asked o ≡ waiting_of_move (move_of o m (after_entry g m e))
-      go Asked.Allowed = refl
-      go (Asked.Refused r) = refl
+      go : (o : Verdict) → waiting_of_asked o ≡ waiting_of_move (move_of o m (after_entry g m e))
+      go (Ok _) = refl
+      go (Err r) = refl
 
   -- the number is that of the table
   pub asked_lines : number_of_asked (the_asked g m e) ≡ number_of_verdict (first (move_lines g m e))
-  unfolding the_asked asked_of number_of_asked number_of_verdict
+  unfolding the_asked number_of_asked number_of_verdict
   asked_lines = go (first (move_lines g m e))
     where
-      go : (v : Verdict) → number_of_asked (asked_of v) ≡ number_of_verdict v
-      go Verdict.Clear = refl
-      go (Verdict.Refused r) = refl
+      go : (v : Verdict) → number_of_asked v ≡ number_of_verdict v
+      go (Ok _) = refl
+      go (Err r) = refl
 
   -- what is allowed is an entry of what there is, on a graph with nothing against it
-  pub allowed_known : the_asked g m e ≡ Asked.Allowed → (graph_verdict g ≡ Verdict.Clear) × (entry_known g e ≡ true)
+  pub allowed_known : the_asked g m e ≡ Ok tt → (graph_verdict g ≡ Ok tt) × (entry_known g e ≡ true)
   unfolding the_asked
   allowed_known q =
-      let c : first (move_lines g m e) ≡ Verdict.Clear = allowed_of (first (move_lines g m e)) q in
+      let c : first (move_lines g m e) ≡ (Ok tt) = q in
       let rest = clear_back (graph_lines g) (marking_lines g m ++ entry_lines g m e) c in
-      let front : graph_verdict g ≡ Verdict.Clear = clear_front (graph_lines g) (marking_lines g m ++ entry_lines g m e) c in
+      let front : graph_verdict g ≡ (Ok tt) = clear_front (graph_lines g) (marking_lines g m ++ entry_lines g m e) c in
       (front, not-false (entry_known g e) (clear_head _ _ (clear_tail _ _ rest)))
 
-  pub entry_allowed : entry_asked g m e ≡ Asked.Allowed → entry_known g e ≡ true
+  pub entry_allowed : entry_asked g m e ≡ Ok tt → entry_known g e ≡ true
   unfolding entry_asked
-  entry_allowed q = not-false (entry_known g e) (clear_head _ _ (allowed_of (first (entry_lines g m e)) q))
+  entry_allowed q = not-false (entry_known g e) (clear_head _ _ (q))

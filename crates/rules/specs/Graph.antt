@@ -1,7 +1,7 @@
 -- Graphs (Definitions 3 and 5), and when one handed over as a value is refused.
 use Rattle.std.specs.Prelude.{ℕ, List, [], ◌∷◌, Bool, not, ◌&&◌}
 use Rattle.moves.specs.declared.Refusal.TheVariants.{Counts, Beyond, Both}
-use Rattle.moves.specs.declared.Verdict.{Verdict}
+use Rattle.moves.specs.First.{Verdict}
 use Rattle.moves.specs.First.{Line, first}
 use Rattle.tables.specs.Tables.{row, counts_fit, roles_fit, labels_fit, arrow_rows_fit, kinds_apart, table_at}
 

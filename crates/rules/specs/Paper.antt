@@ -9,7 +9,7 @@ use Rattle.sets.specs.Laws.{has_union, has_meet, has_minus, has_single, empty_me
 use Rattle.rules.specs.Graph.{Graph, graph_lines, graph_verdict, conditions_of, responses_of, includes_of, excludes_of, roles_of, roles_held}
 use Rattle.moves.specs.declared.Marking.{Marking}
 use Rattle.moves.specs.declared.Entry.{Entry}
-use Rattle.moves.specs.declared.Verdict.{Verdict}
+use Rattle.moves.specs.First.{Verdict}
 use Rattle.moves.specs.First.{first, number_of_verdict, number_of}
 use Rattle.rules.specs.Answers.{the_move, move_lines, marking_lines, entry_known, row_of}
 use Rattle.rules.specs.Answers.{number_of_ending, ending_of, the_ending}
@@ -17,6 +17,7 @@ use Rattle.moves.specs.Move.{row_lines, after, waits_for, is_finished, marking_f
 use Rattle.moves.specs.Given.{ascends, holds, first_lowest, clear_head, clear_tail}
 use Rattle.rules.specs.Signs.{◌∩◌, ◌∖◌, ◌∪◌, ◌∈◌, Ex, Re, In}
 use Rattle.rules.specs.Asking.{asked_number, asked_lines}
+use Rattle.std.specs.Prelude.{Ok, Err}
 
 -- ---- Definition 3: the relations
 
@@ -68,7 +69,7 @@ has_waits conditions m a =
     ∙ ap (λ (b : Bool). b && not (has m.done a)) (has_meet conditions m.included a)
 
 -- nothing is against an entry that is known exactly if the definitions allow it
-pub lines_allowed : (g : Graph) (m : Marking) (e : Entry) → first (row_lines (row_of g e.person e.step.0) m e) ≡ Verdict.Clear
+pub lines_allowed : (g : Graph) (m : Marking) (e : Entry) → first (row_lines (row_of g e.person e.step.0) m e) ≡ Ok tt
     → Allowed g m e
 lines_allowed g m e c =
     let c2 = clear_tail _ _ c in
@@ -86,7 +87,7 @@ lines_allowed g m e c =
     }
 
 pub allowed_lines : (g : Graph) (m : Marking) (e : Entry) → Allowed g m e
-    → first (row_lines (row_of g e.person e.step.0) m e) ≡ Verdict.Clear
+    → first (row_lines (row_of g e.person e.step.0) m e) ≡ Ok tt
 unfolding first
 allowed_lines g m e w =
     let none : empty (waits_for (conditions_of g e.step.0) m) ≡ true =
@@ -98,7 +99,7 @@ allowed_lines g m e w =
 
 -- the graph and the marking are as they should be, and the entry names what there is
 pub record Ready (g : Graph) (m : Marking) (e : Entry) : Type 0 where
-  pub graph : graph_verdict g ≡ Verdict.Clear
+  pub graph : graph_verdict g ≡ Ok tt
   pub marking : marking_fits g.steps m ≡ true
   pub names : entry_known g e ≡ true
 
@@ -109,9 +110,9 @@ move_number g m e = sym (asked_number g m e) ∙ asked_lines g m e
 
 ending_of_lem : (v : Verdict) (done : Bool) → number_of_ending (ending_of v done) ≡ number_of_verdict v
 unfolding number_of_ending ending_of number_of_verdict
-ending_of_lem Verdict.Clear true = refl
-ending_of_lem Verdict.Clear false = refl
-ending_of_lem (Verdict.Refused r) done = refl
+ending_of_lem (Ok _) true = refl
+ending_of_lem (Ok _) false = refl
+ending_of_lem (Err r) done = refl
 
 pub ending_number : (g : Graph) (m : Marking) → number_of_ending (the_ending g m) ≡ number_of_verdict (first (graph_lines g ++ marking_lines g m))
 unfolding the_ending

@@ -8,7 +8,7 @@ use Rattle.sets.specs.Laws.{every_at, union_lt, minus_lt, single_lt}
 use Rattle.rules.specs.Graph.{Graph, sets_fit, graph_verdict, conditions_of, responses_of, includes_of, excludes_of, action_of, roles_of}
 use Rattle.rules.specs.Graph.{roles_held}
 use Rattle.moves.specs.declared.Marking.{Marking}
-use Rattle.moves.specs.declared.Verdict.{Verdict}
+use Rattle.moves.specs.First.{Verdict}
 use Rattle.tables.specs.Tables.{keeps, labels_fit, kinds_apart}
 use Rattle.moves.specs.Move.{after}
 use Rattle.rules.specs.Answers.{row_of}
@@ -16,6 +16,7 @@ use Rattle.tables.specs.Laws.{Counted, keeps_row, keeps_gone, named_below, label
 use Rattle.rules.specs.Laws.{clear_counts}
 use Rattle.moves.specs.Given.{clear_head, clear_tail}
 use Rattle.moves.specs.Inside.{Inside}
+use Rattle.std.specs.Prelude.{Ok}
 
 -- what is so of a graph with nothing against it
 pub record Sound (g : Graph) : Type 0 where
@@ -32,7 +33,7 @@ pub record Sound (g : Graph) : Type 0 where
   pub excludes_in : (s : ℕ) → excludes_of g s < 2 ^ g.steps
   pub apart : (a : ℕ) → a < g.steps → empty (meet (includes_of g a) (excludes_of g a)) ≡ true
 
-pub clear_sound : (g : Graph) → graph_verdict g ≡ Verdict.Clear → Sound g
+pub clear_sound : (g : Graph) → graph_verdict g ≡ Ok tt → Sound g
 unfolding sets_fit
 clear_sound g e =
     let fit : sets_fit g ≡ true = not-false (sets_fit g) (clear_head _ _ (clear_tail _ _ e)) in

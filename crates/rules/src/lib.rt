@@ -6,7 +6,7 @@ ghost use Rattle.rules.specs.Graph.{graph_of, graph_verdict};
 ghost use Rattle.rules.specs.Answers.{the_asked, the_move, the_ending};
 
 use crate::inner::{ask_on, finished_on, take_asked};
-use moves::{Asked, Entry, Marking, Move, Refusal, Verdict};
+use moves::{Denied, Entry, Marking, Refusal};
 use tables::{arrows_checked, counts_fit, labels_fit, roles_fit};
 
 pub mod inner;
@@ -32,15 +32,14 @@ pub const WORDS: usize = 404;
 
 pub type Job = [u64; WORDS];
 
-#[derive(Clone, Copy)]
+#[derive(Clone, Copy, PartialEq, Eq)]
 pub enum Ending {
     Finished,
     Open,
-    Refused(Refusal),
 }
 
 // Is this a graph? Refusals 2, 4, 6.
-pub fn check(g: &Job) -> Verdict
+pub fn check(g: &Job) -> Result<(), Refusal>
     ensures { result ≡ graph_verdict (graph_of g.now) }
 {
     let steps = g[0];
@@ -48,7 +47,7 @@ pub fn check(g: &Job) -> Verdict
     let roles = g[2];
     let actions = g[3];
     if !counts_fit(steps, people, roles, actions) {
-        return Verdict::Refused(Refusal::Counts);
+        return Err(Refusal::Counts);
     }
     let w = &g[..];
     let arrows = arrows_checked(
@@ -60,41 +59,34 @@ pub fn check(g: &Job) -> Verdict
     );
     let named = roles_fit(actions, people, roles, &w[ALLOWS..HOLDS], &w[HOLDS..LABELS]);
     if !((named & labels_fit(steps, actions, &w[LABELS..WORDS])) & arrows.fit) {
-        return Verdict::Refused(Refusal::Beyond);
+        return Err(Refusal::Beyond);
     }
     if !arrows.apart {
-        return Verdict::Refused(Refusal::Both);
+        return Err(Refusal::Both);
     }
-    Verdict::Clear
+    Ok(())
 }
 
 // May the step be taken? Nothing is changed by asking. Refusals 2, 4, 6, 8, 11 to 15.
-pub fn ask(g: &Job, m: Marking, e: Entry) -> Asked
+pub fn ask(g: &Job, m: Marking, e: Entry) -> Result<(), Refusal>
     ensures value { result ≡ the_asked (graph_of g.now) m e }
     ensures lent { g.exit.now ≡ g.entry.now }
 {
-    let v = check(g);
-    if let Verdict::Refused(r) = v {
-        return Asked::Refused(r);
-    }
+    check(g)?; // 2, 4, 6 come before what the marking and the entry are asked
     ask_on(g, m, e)
 }
 
 // Take one step: ask, and if it is allowed the marking after. Refusals 2, 4, 6, 8, 11 to 15, as `ask`.
-pub fn take(g: &Job, m: Marking, e: Entry) -> Move
+pub fn take(g: &Job, m: Marking, e: Entry) -> Result<Marking, Denied>
     ensures { result ≡ the_move (graph_of g.now) m e }
 {
-    let o = ask(g, m, e);
-    take_asked(g, m, e, o)
+    take_asked(g, m, e, ask(g, m, e))
 }
 
 // Is the job finished: is no step both due and included? Refusals 2, 4, 6, 8.
-pub fn finished(g: &Job, m: Marking) -> Ending
+pub fn finished(g: &Job, m: Marking) -> Result<Ending, Refusal>
     ensures { result ≡ the_ending (graph_of g.now) m }
 {
-    let v = check(g);
-    if let Verdict::Refused(r) = v {
-        return Ending::Refused(r);
-    }
+    check(g)?;
     finished_on(g[0], m)
 }

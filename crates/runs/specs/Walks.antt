@@ -8,25 +8,29 @@ use Rattle.moves.specs.Move.{entry_of}
 use Rattle.moves.specs.declared.Marking.{Marking}
 use Rattle.moves.specs.declared.Entry.{Entry}
 use Rattle.moves.specs.declared.Refusal.{Refusal}
-use Rattle.moves.specs.declared.Move.{Move}
+use Rattle.moves.specs.Move.{Move}
 use Rattle.moves.specs.First.{number_of}
 use Rattle.rules.specs.Answers.{the_move}
-use Rattle.journal.specs.declared.Ran.{Ran}
-use Rattle.journal.specs.declared.Walked.{Walked}
+use Rattle.journal.specs.Ran.{Ran}
+use Rattle.journal.specs.Ran.{Walked}
 use Rattle.journal.specs.declared.Stride.{Stride}
 use Rattle.journal.specs.Journal.{entries, entry_at, length_fits}
 use Rattle.journal.specs.Run.{the_run}
 use Rattle.journal.specs.Walk.{hand_out, stride_at}
 use Rattle.journal.specs.Laws.{walk_fits, walk_length, walk_entry, walk_end, fits_threes, entries_length, entries_at}
 use Rattle.runs.specs.Runs.{Passes, ended_passes, stopped_first}
+use Rattle.std.specs.Prelude.{Ok, Err, Some, None}
+use Rattle.moves.specs.Move.{denied}
+use Rattle.journal.specs.Ran.{ended}
+use Rattle.journal.specs.Ran.{stopped}
 
 -- ---- walk and run agree entry by entry
 
 -- an entry that is handed out stands before what is handed out later
 unfoldable pub handed_before : Walked → List Entry → List Entry
-handed_before (Walked.At e) later = e ∷ later
-handed_before Walked.End later = later
-handed_before (Walked.Refused r) later = later
+handed_before (Ok (Some e)) later = e ∷ later
+handed_before (Ok None) later = later
+handed_before (Err r) later = later
 
 -- what n calls of a walk hand out, from place k on
 unfoldable pub handed : ℕ → List ℕ → ℕ → List Entry
@@ -57,8 +61,8 @@ walk_hands_none (suc n) j k f =
     ap (λ (s : Stride). handed_before s.said (handed n j s.place)) (walk_length j k f) ∙ walk_hands_none n j k f
 
 -- where a run stops, the walk hands out the entry that it stopped at, after those that passed
-pub stopped_walk : (g : Graph) (m m' : Marking) (k : ℕ) (r : Refusal) (j : List ℕ) → the_run g m j ≡ Ran.Stopped k m' r → 11 ≤ number_of r
-    → Passes g m (handed k j 0) m' × ((stride_at j k).said ≡ Walked.At (entry_at j k)) × (the_move g m' (entry_at j k) ≡ Move.Refused m' r)
+pub stopped_walk : (g : Graph) (m m' : Marking) (k : ℕ) (r : Refusal) (j : List ℕ) → the_run g m j ≡ Err (stopped k m' r) → 11 ≤ number_of r
+    → Passes g m (handed k j 0) m' × ((stride_at j k).said ≡ Ok (Some (entry_at j k))) × (the_move g m' (entry_at j k) ≡ Err (denied m' r))
 stopped_walk g m m' k r j e high =
     let known = stopped_first g m m' k r j e high in
     let count : length (entries j) * 3 ≡ length j = entries_length j (fits_threes j known.0.long) in
@@ -70,8 +74,8 @@ stopped_walk g m m' k r j e high =
     )
 
 -- where a run ends, the walk has handed out what passed, and says so
-pub ended_walk : (g : Graph) (m m' : Marking) (n : ℕ) (j : List ℕ) → the_run g m j ≡ Ran.Ended m' n → Passes g m (handed n j 0) m'
-    × ((stride_at j n).said ≡ Walked.End)
+pub ended_walk : (g : Graph) (m m' : Marking) (n : ℕ) (j : List ℕ) → the_run g m j ≡ Ok (ended m' n) → Passes g m (handed n j 0) m'
+    × ((stride_at j n).said ≡ Ok None)
 ended_walk g m m' n j e =
     let known = ended_passes g m m' n j e in
     let count : length (entries j) * 3 ≡ length j = entries_length j (fits_threes j known.0.long) in

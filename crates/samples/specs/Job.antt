@@ -3,13 +3,15 @@ use Rattle.std.specs.Prelude.{ℕ, zero, suc, List, [], ◌∷◌, Bool, false, 
 use Rattle.sets.specs.Sets.{single, union}
 use Rattle.moves.specs.declared.Marking.{Marking}
 use Rattle.moves.specs.declared.Entry.{Entry}
-use Rattle.moves.specs.declared.Asked.{Asked}
-use Rattle.moves.specs.declared.Move.{Move}
+use Rattle.moves.specs.First.{Verdict}
+use Rattle.moves.specs.Move.{Move}
 use Rattle.moves.specs.Move.{entry_of, number_of_asked, waiting_of_asked, number_of_move, waiting_of_move, marking_of_move}
 use Rattle.rules.specs.Graph.{Graph}
-use Rattle.records.specs.declared.Recorded.{Recorded}
-use Rattle.tracker.specs.declared.Tracked.{Tracked}
+use Rattle.records.specs.Answers.{Recorded}
+use Rattle.tracker.specs.Tracked.{Tracked}
 use Rattle.tracker.specs.Tracker.{the_step}
+use Rattle.std.specs.Prelude.{Ok, Err}
+use Rattle.tracker.specs.declared.Unmoved.{Unmoved}
 
 -- ---- what the document writes down, as values
 
@@ -66,7 +68,7 @@ graph steps people roles step_roles held arrows =
     }
 
 -- an answer to who asks: the number, and the set that goes with it
-abbrev pub answered : Asked → ℕ × ℕ
+abbrev pub answered : Verdict → ℕ × ℕ
 answered o = (number_of_asked o, waiting_of_asked o)
 
 -- an answer to a step: the number, the set that goes with it, the marking
@@ -105,13 +107,13 @@ checked = marking (0 ∷ 1 ∷ []) [] (0 ∷ 1 ∷ 2 ∷ [])
 
 -- a tracker's state: marking, rank i, flag
 abbrev pub at : Marking → ℕ → Bool → Tracked
-at m i up = Tracked.At (record { marking = m; rank = record { 0 = i }; flag = up })
+at m i up = Ok (record { marking = m; rank = record { 0 = i }; flag = up })
 
 -- one step more of the tracker
 unfoldable pub tracking : Graph → Tracked → Entry → Tracked
-tracking g (Tracked.At t) e = the_step g t e
-tracking g (Tracked.Refused r) e = Tracked.Refused r
-tracking g (Tracked.Stays t r) e = Tracked.Stays t r
+tracking g (Ok t) e = the_step g t e
+tracking g (Err (Unmoved.Refused r)) e = Err (Unmoved.Refused r)
+tracking g (Err (Unmoved.Stays t r)) e = Err (Unmoved.Stays t r)
 
 -- the bytes of a journal: person, step, role
 unfoldable pub journal : List Entry → List ℕ
@@ -121,7 +123,7 @@ journal (e ∷ rest) = e.person ∷ e.step.0 ∷ e.role ∷ journal rest
 -- a record: NeedIn, NeedEx, NeedOutOrEx, Done, DueSet, DueClear, InSet, InClear
 abbrev pub folded : List ℕ → List ℕ → List ℕ → List ℕ → List ℕ → List ℕ → List ℕ → List ℕ → Recorded
 folded need_in need_ex need_out_or_ex done due_set due_clear in_set in_clear =
-    Recorded.Made
+    Ok
     (record {
       never = false;
       needin = set need_in;

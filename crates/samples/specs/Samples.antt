@@ -3,23 +3,25 @@ use Rattle.std.specs.Prelude.{ℕ, ◌≡◌, refl, List, [], ◌∷◌, true, f
 use Rattle.std.proofs.Common.{subst}
 use Rattle.sets.specs.Sets.{has, full, scan, lowest, every}
 use Rattle.moves.specs.First.{first, number_of, waiting_of}
-use Rattle.moves.specs.Move.{entry_of, asked_of, move_of, is_finished, number_of_asked, waiting_of_asked, number_of_move, waiting_of_move, marking_of_move}
+use Rattle.moves.specs.Move.{entry_of, move_of, is_finished, number_of_asked, waiting_of_asked, number_of_move, waiting_of_move, marking_of_move}
 use Rattle.tables.specs.Tables.{keeps, labels_fit}
 use Rattle.rules.specs.Graph.{sets_fit}
 use Rattle.rules.specs.Answers.{the_asked, the_move, entry_asked, entry_move}
 use Rattle.journal.specs.Journal.{entries}
-use Rattle.records.specs.declared.Recorded.{Recorded}
+use Rattle.records.specs.Answers.{Recorded}
 use Rattle.records.specs.Records.{impossible, tidy, join}
 use Rattle.records.specs.Answers.{recorded_of}
 use Rattle.folding.specs.Fold.{fold_of, entry_record}
 use Rattle.folding.specs.Answers.{the_fold}
-use Rattle.laps.specs.declared.Lapped.{Lapped}
+use Rattle.laps.specs.Lapped.{Lapped}
 use Rattle.laps.specs.Laps.{LapAnswer}
 use Rattle.laps.specs.Decision.{go_through, leg_on, upon, second_lap, first_lap, decision, lap_of, the_lap}
 use Rattle.laps.proofs.Laws.{the_lap_right}
 use Rattle.tracker.specs.Tracker.{the_start, the_step, track_after, tracked_of}
 use Rattle.samples.specs.Job.{set, rows, targets, sources, table, given, answered, job, first_marking}
 use Rattle.samples.specs.Job.{reboot, check, publish, rebooted, checked, at, tracking, journal, folded}
+use Rattle.std.specs.Prelude.{Ok}
+use Rattle.laps.specs.declared.Endless.{Endless}
 
 -- a sample: its number, and what it says
 abbrev pub Sample : Type 1
@@ -65,12 +67,12 @@ samples =
     -- S10: fold of publish: NeedIn {2}, NeedOutOrEx {1}, Done {2}, DueClear {2}
     ∷ (10, the_fold job (journal (publish ∷ [])) ≡ folded (2 ∷ []) [] (1 ∷ []) (2 ∷ []) [] (2 ∷ []) [] [])
     -- S11: fold of reboot, publish: never
-    ∷ (11, the_fold job (journal (reboot ∷ publish ∷ [])) ≡ Recorded.Made impossible)
+    ∷ (11, the_fold job (journal (reboot ∷ publish ∷ [])) ≡ Ok impossible)
     -- S12: without a stem, reboot for ever starves step 1; reboot and check for ever are accepted
     ∷ (
       12,
-      LapAnswer job first_marking [] (journal (reboot ∷ [])) (Lapped.Starved (record { 0 = 1 }))
-          × LapAnswer job first_marking [] (journal (reboot ∷ check ∷ [])) Lapped.Accepted,
+      LapAnswer job first_marking [] (journal (reboot ∷ [])) (Ok (Endless.Starved (record { 0 = 1 })))
+          × LapAnswer job first_marking [] (journal (reboot ∷ check ∷ [])) (Ok Endless.Accepted),
     )
     -- S13: after reboot the tracker has rank 1 and its flag down, after check rank 2 and its flag up
     ∷ (
@@ -81,18 +83,18 @@ samples =
     ∷ []
 
 -- the laps of S12 are decided by computing, and the decision is right for the run without end
-starved : the_lap job first_marking [] (journal (reboot ∷ [])) ≡ Lapped.Starved (record { 0 = 1 })
+starved : the_lap job first_marking [] (journal (reboot ∷ [])) ≡ Ok (Endless.Starved (record { 0 = 1 }))
 unfolding journal set rows targets sources table job first number_of keeps labels_fit sets_fit has full scan lowest every go_through leg_on upon
-    second_lap first_lap decision lap_of the_lap entry_move entry_asked asked_of move_of entries
+    second_lap first_lap decision lap_of the_lap entry_move entry_asked move_of entries
 starved = refl
 
-accepted : the_lap job first_marking [] (journal (reboot ∷ check ∷ [])) ≡ Lapped.Accepted
+accepted : the_lap job first_marking [] (journal (reboot ∷ check ∷ [])) ≡ Ok Endless.Accepted
 unfolding journal set rows targets sources table job first number_of keeps labels_fit sets_fit has full scan lowest every go_through leg_on upon
-    second_lap first_lap decision lap_of the_lap entry_move entry_asked asked_of move_of entries
+    second_lap first_lap decision lap_of the_lap entry_move entry_asked move_of entries
 accepted = refl
 
-twelve : LapAnswer job first_marking [] (journal (reboot ∷ [])) (Lapped.Starved (record { 0 = 1 }))
-    × LapAnswer job first_marking [] (journal (reboot ∷ check ∷ [])) Lapped.Accepted
+twelve : LapAnswer job first_marking [] (journal (reboot ∷ [])) (Ok (Endless.Starved (record { 0 = 1 })))
+    × LapAnswer job first_marking [] (journal (reboot ∷ check ∷ [])) (Ok Endless.Accepted)
 twelve = (
   subst (LapAnswer job first_marking [] (journal (reboot ∷ []))) starved (the_lap_right job first_marking [] (journal (reboot ∷ []))),
   subst (LapAnswer job first_marking [] (journal (reboot ∷ check ∷ []))) accepted
@@ -100,7 +102,7 @@ twelve = (
 )
 
 pub samples_hold : Hold samples
-unfolding samples set rows targets sources table job tracking first number_of waiting_of keeps labels_fit sets_fit the_move the_asked asked_of
+unfolding samples set rows targets sources table job tracking first number_of waiting_of keeps labels_fit sets_fit the_move the_asked
     move_of number_of_asked waiting_of_asked number_of_move waiting_of_move marking_of_move the_start the_step track_after tracked_of has full scan lowest
     every journal the_fold recorded_of fold_of entry_record tidy join entries
 samples_hold = (refl, refl) also (refl, refl, refl) also refl also

@@ -6,7 +6,7 @@ use Rattle.std.proofs.Math.ListN.{drop}
 use Rattle.std.proofs.lemmas.List.Edits.{sets-eq}
 use Rattle.std.proofs.Math.Dec.{ltb}
 use Rattle.moves.specs.declared.Marking.{Marking}
-use Rattle.moves.specs.declared.Verdict.{Verdict}
+use Rattle.moves.specs.First.{Verdict}
 use Rattle.moves.specs.declared.Refusal.{Refusal}
 use Rattle.moves.specs.declared.Refusal.TheVariants.{Room}
 use Rattle.moves.specs.First.{first}
@@ -16,15 +16,16 @@ use Rattle.rules.specs.Graph.{Graph}
 use Rattle.numbers.specs.Numbers.{Spliced}
 use Rattle.reading.specs.Reading.{first_of, read_verdict, block_read}
 use Rattle.writing.specs.Writing.{sheet_bytes, content_lines}
-use Rattle.sheet.specs.declared.Answer.{Answer}
-use Rattle.sheet.specs.declared.Written.{Written}
+use Rattle.sheet.specs.Sheet.{Answer}
+use Rattle.sheet.specs.Sheet.{Written}
 use Rattle.sheet.specs.Sheet.{if_clear, the_answer, write_verdict, written_of, the_written, room_after}
+use Rattle.std.specs.Prelude.{Ok, Err}
 
-pub if_clear_lem : {A : Type 0} (v : Verdict) (a b : A) → v ≡ Verdict.Clear → if_clear v a b ≡ a
+pub if_clear_lem : {A : Type 0} (v : Verdict) (a b : A) → v ≡ Ok tt → if_clear v a b ≡ a
 unfolding if_clear
 if_clear_lem v a b e = ap (λ (w : Verdict). if_clear w a b) e
 
-pub if_refused : {A : Type 0} (v : Verdict) (r : Refusal) (a b : A) → v ≡ Verdict.Refused r → if_clear v a b ≡ b
+pub if_refused : {A : Type 0} (v : Verdict) (r : Refusal) (a b : A) → v ≡ Err r → if_clear v a b ≡ b
 unfolding if_clear
 if_refused v r a b e = ap (λ (w : Verdict). if_clear w a b) e
 
@@ -42,23 +43,23 @@ unfolding if_clear
 read_refused s old v e t = go v e t
   where
     go : (w : Verdict) → w ≡ read_verdict s → if_clear w false true ≡ true → Read s old old (record { verdict = w; first = no_marking })
-    go Verdict.Clear p q = absurd (let z : ◌≡◌ {A = ℕ} 0 1 = cc in let x : ⊥ = omega arith in x)
-    go (Verdict.Refused r) p q = record {
+    go (Ok _) p q = absurd (let z : ◌≡◌ {A = ℕ} 0 1 = cc in let x : ⊥ = omega arith in x)
+    go (Err r) p q = record {
       answer = λ i. record { verdict = p i; first = sym (if_refused (read_verdict s) r (first_of s) no_marking (sym p)) i };
       block = sym (if_refused (read_verdict s) r (block_read s) old (sym p));
     }
 
 -- any other verdict is clear
-pub not_refused : (v : Verdict) → if_clear v false true ≡ false → v ≡ Verdict.Clear
+pub not_refused : (v : Verdict) → if_clear v false true ≡ false → v ≡ Ok tt
 unfolding if_clear
-not_refused Verdict.Clear e = ap (λ (b : Bool). Verdict.Clear) e
-not_refused (Verdict.Refused r) e = absurd (let z : ◌≡◌ {A = ℕ} 0 1 = cc in let x : ⊥ = omega arith in x)
+not_refused (Ok _) e = ap (λ (b : Bool). (Ok tt)) e
+not_refused (Err r) e = absurd (let z : ◌≡◌ {A = ℕ} 0 1 = cc in let x : ⊥ = omega arith in x)
 
-pub read_clear : (s old new : List ℕ) (v : Verdict) (m : Marking) → v ≡ read_verdict s → v ≡ Verdict.Clear → m ≡ first_of s
+pub read_clear : (s old new : List ℕ) (v : Verdict) (m : Marking) → v ≡ read_verdict s → v ≡ Ok tt → m ≡ first_of s
     → new ≡ block_read s
     → Read s old new (record { verdict = v; first = m })
 read_clear s old new v m e c f b =
-    let clear : read_verdict s ≡ Verdict.Clear = sym e ∙ c in
+    let clear : read_verdict s ≡ (Ok tt) = sym e ∙ c in
     record {
       answer = λ i. record { verdict = e i; first = (f ∙ sym (if_clear_lem (read_verdict s) (first_of s) no_marking clear)) i };
       block = b ∙ sym (if_clear_lem (read_verdict s) (block_read s) old clear);
@@ -76,32 +77,32 @@ module _ (g : Graph) (m : Marking) (old : List ℕ) where
     pub room : new ≡ room_after g m old
 
   -- by the verdict
-  refused_room : (r : Refusal) → write_verdict g m (length old) ≡ Verdict.Refused r → Wrote old (Written.Refused r)
+  refused_room : (r : Refusal) → write_verdict g m (length old) ≡ Err r → Wrote old (Err r)
   unfolding written_of
   refused_room r v = record {
     answer = sym (ap (λ (w : Verdict). written_of w size) v);
     room = sym (if_refused (write_verdict g m (length old)) r (sheet_bytes g m ++ drop size old) old v);
   }
 
-  pub write_refused : (r : Refusal) → first (content_lines g m) ≡ Verdict.Refused r → Wrote old (Written.Refused r)
+  pub write_refused : (r : Refusal) → first (content_lines g m) ≡ Err r → Wrote old (Err r)
   unfolding write_verdict
   write_refused r e = refused_room r (first_refused (content_lines g m) ((Room, ltb (length old) size) ∷ []) r e)
 
-  module _ (e : first (content_lines g m) ≡ Verdict.Clear) where
-    room_tested : write_verdict g m (length old) ≡ cond (ltb (length old) size) (Verdict.Refused Room) Verdict.Clear
+  module _ (e : first (content_lines g m) ≡ Ok tt) where
+    room_tested : write_verdict g m (length old) ≡ cond (ltb (length old) size) (Err Room) (Ok tt)
     unfolding write_verdict first
     room_tested = first_clear (content_lines g m) ((Room, ltb (length old) size) ∷ []) e
 
-    pub write_short : length old < size → Wrote old (Written.Refused Room)
+    pub write_short : length old < size → Wrote old (Err Room)
     write_short h =
-        refused_room Room (room_tested ∙ ap (λ (b : Bool). cond b (Verdict.Refused Room) Verdict.Clear) (lt-ltb (length old) size h))
+        refused_room Room (room_tested ∙ ap (λ (b : Bool). cond b (Err Room) (Ok tt)) (lt-ltb (length old) size h))
 
-    pub room_clear : size ≤ length old → write_verdict g m (length old) ≡ Verdict.Clear
-    room_clear h = room_tested ∙ ap (λ (b : Bool). cond b (Verdict.Refused Room) Verdict.Clear) (le-ltb (length old) size h)
+    pub room_clear : size ≤ length old → write_verdict g m (length old) ≡ Ok tt
+    room_clear h = room_tested ∙ ap (λ (b : Bool). cond b (Err Room) (Ok tt)) (le-ltb (length old) size h)
 
     -- with room enough the length is answered, and the room begins with the sheet
     pub clear_after : size ≤ length old
-        → (the_written g m (length old) ≡ Written.Length size) × (room_after g m old ≡ sheet_bytes g m ++ drop size old)
+        → (the_written g m (length old) ≡ Ok size) × (room_after g m old ≡ sheet_bytes g m ++ drop size old)
     unfolding written_of
     clear_after h = (
       ap (λ (w : Verdict). written_of w size) (room_clear h),
@@ -109,12 +110,12 @@ module _ (g : Graph) (m : Marking) (old : List ℕ) where
     )
 
     -- the sheet was written from the start of the room
-    pub write_done : (new : List ℕ) (r : ℕ) → size ≤ length old → Spliced (sheet_bytes g m) 0 old new r → Wrote new (Written.Length r)
+    pub write_done : (new : List ℕ) (r : ℕ) → size ≤ length old → Spliced (sheet_bytes g m) 0 old new r → Wrote new (Ok r)
     write_done new r h s =
         let n : r ≡ 0 + size = s.next in
         let z : 0 + size ≡ size = omega arith in
         let whole = sets-eq (sheet_bytes g m) old 0 (omega arith) ∙ ap (λ (k : ℕ). sheet_bytes g m ++ drop k old) z in
         record {
-          answer = ap Written.Length (n ∙ z) ∙ sym (clear_after h).0;
+          answer = ap Ok (n ∙ z) ∙ sym (clear_after h).0;
           room = s.stored ∙ whole ∙ sym (clear_after h).1;
         }

@@ -2,22 +2,21 @@
 -- `writing`.
 use Rattle.std.specs.Prelude.{ℕ, List, [], ◌∷◌, ◌++◌, length, drop, ltb}
 use Rattle.moves.specs.declared.Marking.{Marking}
-use Rattle.moves.specs.declared.Verdict.{Verdict}
+use Rattle.moves.specs.First.{Verdict}
 use Rattle.moves.specs.declared.Refusal.TheVariants.{Room}
 use Rattle.moves.specs.First.{Line, first, number_of}
 use Rattle.moves.specs.Move.{no_marking}
 use Rattle.rules.specs.Graph.{Graph}
 use Rattle.reading.specs.Reading.{first_of}
 use Rattle.writing.specs.Writing.{content_lines}
-use Rattle.sheet.specs.declared.Answer.{Answer}
-use Rattle.sheet.specs.declared.Written.{Written}
 unfoldable pub use Rattle.reading.specs.Reading.{read_verdict, block_read}
 unfoldable pub use Rattle.writing.specs.Writing.{sheet_bytes}
+use Rattle.std.specs.Prelude.{Ok, Err}
 
 -- the one where nothing is against it, else the other
 unfoldable pub if_clear : {A : Type 0} → Verdict → A → A → A
-if_clear Verdict.Clear a b = a
-if_clear (Verdict.Refused r) a b = b
+if_clear (Ok _) a b = a
+if_clear (Err r) a b = b
 
 -- ---- reading
 
@@ -35,8 +34,8 @@ unfoldable pub write_verdict : Graph → Marking → ℕ → Verdict
 write_verdict g m room = first (write_lines g m room)
 
 unfoldable pub written_of : Verdict → ℕ → Written
-written_of Verdict.Clear size = Written.Length size
-written_of (Verdict.Refused r) size = Written.Refused r
+written_of (Ok _) size = Ok size
+written_of (Err r) size = Err r
 
 -- what is answered
 abbrev pub the_written : Graph → Marking → ℕ → Written
@@ -50,10 +49,10 @@ room_after g m old = if_clear (write_verdict g m (length old)) (sheet_bytes g m 
 
 -- 0 where the sheet is written
 unfoldable pub number_of_written : Written → ℕ
-number_of_written (Written.Length size) = 0
-number_of_written (Written.Refused r) = number_of r
+number_of_written (Ok size) = 0
+number_of_written (Err r) = number_of r
 
 -- how many bytes are written
 unfoldable pub length_of_written : Written → ℕ
-length_of_written (Written.Length size) = size
-length_of_written (Written.Refused r) = 0
+length_of_written (Ok size) = size
+length_of_written (Err r) = 0

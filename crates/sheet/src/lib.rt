@@ -26,8 +26,8 @@ fn refused(v: Verdict) -> bool
     ensures { result ≡ if_clear v false true }
 {
     match v {
-        Verdict::Clear => false,
-        Verdict::Refused(_) => true,
+        Ok(()) => false,
+        Err(_) => true,
     }
 }
 
@@ -52,18 +52,18 @@ pub fn read(s: &[u8], g: &mut Job) -> Answer
 }
 
 // Writes the sheet of the graph and its first marking. Refusals 2, 4, 6, 18; on a refusal the room stays as it is.
-pub fn write(g: &Job, m: Marking, room: &mut [u8]) -> Written
+pub fn write(g: &Job, m: Marking, room: &mut [u8]) -> Result<usize, Refusal>
     ensures value { result ≡ the_written (graph_of g.now) m (length room.old) }
     ensures room_after { room.new ≡ room_after (graph_of g.now) m room.old }
 {
     let v = writing::content(g, m);
-    if let Verdict::Refused(r) = v {
-        return Written::Refused(r);
+    if let Err(r) = v {
+        return Err(r);
     }
     let turned = writing::turned(g);
     let size = writing::size(g, &turned);
     if room.len() < size {
-        return Written::Refused(Refusal::Room);
+        return Err(Refusal::Room);
     }
-    Written::Length(writing::fill(g, &turned, m, size, room))
+    Ok(writing::fill(g, &turned, m, size, room))
 }

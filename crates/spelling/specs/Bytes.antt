@@ -1,14 +1,15 @@
 -- A record's 65 bytes, and what the calls that read and write them answer.
 use Rattle.std.specs.Prelude.{ℕ, ◌≡◌, List, [], ◌∷◌, ◌++◌, Bool, not, ◌&&◌, cond, length, get_or, drop, eqb, ltb, leb}
 use Rattle.moves.specs.declared.Refusal.TheVariants.{Counts, IllFormed, Room}
-use Rattle.moves.specs.declared.Verdict.{Verdict}
+use Rattle.moves.specs.First.{Verdict}
 use Rattle.moves.specs.First.{Line, first}
 use Rattle.moves.specs.Move.{within1to}
 use Rattle.numbers.specs.Numbers.{number, bytes}
 use Rattle.records.specs.declared.Record.{Record}
-use Rattle.records.specs.declared.Recorded.{Recorded}
+use Rattle.records.specs.Answers.{Recorded}
 use Rattle.records.specs.Records.{sets_of, well_formed}
 use Rattle.records.specs.Answers.{recorded_of}
+use Rattle.std.specs.Prelude.{Ok, Err}
 
 -- the first byte is never, 0 or 1
 abbrev pub flag : Bool → ℕ
@@ -57,8 +58,8 @@ to_bytes_lines n r room = (Counts, not (within1to n 64)) ∷ (IllFormed, not (we
 
 -- the room is written only where nothing is against it, and stays as it was beyond the 65 bytes
 unfoldable pub room_of : Verdict → Record → List ℕ → List ℕ
-room_of Verdict.Clear r room = record_bytes r ++ drop 65 room
-room_of (Verdict.Refused q) r room = room
+room_of (Ok _) r room = record_bytes r ++ drop 65 room
+room_of (Err q) r room = room
 
 -- what is answered, and the room afterwards
 pub record Writing (n : ℕ) (r : Record) (old : List ℕ) (v : Verdict) (new : List ℕ) : Type 0 where

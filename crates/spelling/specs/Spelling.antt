@@ -3,18 +3,19 @@ use Rattle.std.specs.Prelude.{ℕ, zero, suc, ◌+◌, ◌-◌, ◌*◌, ◌%◌
 use Rattle.std.proofs.Common.{sym, ap, ap₂, ◌∙◌, subst, append_assoc, arith, lt_of_lt_of_le, length-drop, take-append-drop, drop-drop, pow_mono, eq-eqb, le-leb, eqb-true, leb-true}
 use Rattle.std.proofs.lemmas.List.Edits.{sets-eq}
 use Rattle.sets.specs.Truth.{and_left, and_right}
-use Rattle.moves.specs.declared.Verdict.{Verdict}
+use Rattle.moves.specs.First.{Verdict}
 use Rattle.moves.specs.First.{first}
 use Rattle.moves.specs.Move.{within1to}
 use Rattle.numbers.specs.Numbers.{number, bytes, Bytes, Spliced}
 use Rattle.numbers.specs.Laws.{drop_bytes, length_bytes, number_bytes, bytes_number, spliced_then, spliced_length}
 use Rattle.records.specs.declared.Record.{Record}
-use Rattle.records.specs.declared.Recorded.{Recorded}
+use Rattle.records.specs.Answers.{Recorded}
 use Rattle.records.specs.Records.{sets_of, well_formed}
 use Rattle.records.specs.WellFormed.{Bounded, well_formed_lem}
 use Rattle.spelling.specs.Bytes.{flag, sets_spelt, record_bytes, record_at, readable, the_reading, to_bytes_lines, room_of, Writing}
 use Rattle.records.specs.Answers.{recorded_of}
 use Rattle.records.specs.Answered.{counts_most}
+use Rattle.std.specs.Prelude.{Ok}
 
 -- ---- writing, set by set
 
@@ -178,7 +179,7 @@ pub writing : (n : ℕ) (r : Record) (old new : List ℕ) (v : Verdict) → firs
 writing n r old new v e h = record { answer = sym e; room = h ∙ ap (λ (w : Verdict). room_of w r old) (sym e) }
 
 -- reading the bytes of a well-formed record gives the record
-pub reads_back : (n : ℕ) (r : Record) → within1to n 64 ≡ true → well_formed n r ≡ true → the_reading n (record_bytes r) ≡ Recorded.Made r
+pub reads_back : (n : ℕ) (r : Record) → within1to n 64 ≡ true → well_formed n r ≡ true → the_reading n (record_bytes r) ≡ Ok r
 unfolding the_reading recorded_of first
 reads_back n r c w =
     let same : record_at (record_bytes r) ≡ r = record_at_record_bytes r (bounded_64 n r (counts_most n c) (well_formed_lem n r w).bounded) in
@@ -192,7 +193,7 @@ pub record SpeltIn (n : ℕ) (s : List ℕ) (r : Record) : Type 0 where
   pub good : well_formed n r ≡ true
   pub spells : record_at s ≡ r
 
-pub reading : (n : ℕ) (s : List ℕ) (r : Record) → the_reading n s ≡ Recorded.Made r → SpeltIn n s r
+pub reading : (n : ℕ) (s : List ℕ) (r : Record) → the_reading n s ≡ Ok r → SpeltIn n s r
 unfolding the_reading recorded_of first
 reading n s r e = go (within1to n 64) refl (readable n s) refl
   where
@@ -217,7 +218,7 @@ reading n s r e = go (within1to n 64) refl (readable n s) refl
     go false p g q = absurd (let z : ◌≡◌ {A = ℕ} 0 1 = cc in let w : ⊥ = omega arith in w)
 
 -- the bytes of a record that was read are those it was read from
-pub writes_back : (n : ℕ) (s : List ℕ) (r : Record) → the_reading n s ≡ Recorded.Made r → Bytes s → record_bytes r ≡ s
+pub writes_back : (n : ℕ) (s : List ℕ) (r : Record) → the_reading n s ≡ Ok r → Bytes s → record_bytes r ≡ s
 writes_back n s r e h =
     let k : SpeltIn n s r = reading n s r e in
     ap record_bytes (sym k.spells) ∙ record_bytes_record_at s h k.size k.low

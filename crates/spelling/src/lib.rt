@@ -12,38 +12,38 @@ use records::{Record, Recorded};
 pub mod inner;
 
 // The record of n steps that the bytes spell. Refusals 2, 10.
-pub fn read(n: u64, s: &[u8]) -> Recorded
+pub fn read(n: u64, s: &[u8]) -> Result<Record, Refusal>
     ensures { result ≡ the_reading n s.now }
 {
     if !counts(n) {
-        return Recorded::Refused(Refusal::Counts);
+        return Err(Refusal::Counts);
     }
     if s.len() != 65 {
-        return Recorded::Refused(Refusal::IllFormed);
+        return Err(Refusal::IllFormed);
     }
     if 1 < s[0] {
-        return Recorded::Refused(Refusal::IllFormed);
+        return Err(Refusal::IllFormed);
     }
     let made = record_at(s);
     if !well_formed(n, made) {
-        return Recorded::Refused(Refusal::IllFormed);
+        return Err(Refusal::IllFormed);
     }
-    Recorded::Made(made)
+    Ok(made)
 }
 
 // A record of n steps into the first 65 bytes of the room. Refusals 2, 10, 18.
-pub fn write(n: u64, r: Record, room: &mut [u8]) -> Verdict
+pub fn write(n: u64, r: Record, room: &mut [u8]) -> Result<(), Refusal>
     ensures { Writing n r room.old result room.new }
 {
     if !counts(n) {
-        return Verdict::Refused(Refusal::Counts);
+        return Err(Refusal::Counts);
     }
     if !well_formed(n, r) {
-        return Verdict::Refused(Refusal::IllFormed);
+        return Err(Refusal::IllFormed);
     }
     if room.len() < 65 {
-        return Verdict::Refused(Refusal::Room);
+        return Err(Refusal::Room);
     }
     spell(r, room);
-    Verdict::Clear
+    Ok(())
 }

@@ -13,40 +13,41 @@ use Rattle.moves.specs.declared.Rank.{Rank}
 use Rattle.moves.specs.declared.Entry.{Entry}
 use Rattle.moves.specs.declared.Refusal.{Refusal}
 use Rattle.moves.specs.declared.Refusal.TheVariants.{Outside, NoRank}
-use Rattle.moves.specs.declared.Verdict.{Verdict}
-use Rattle.moves.specs.declared.Asked.{Asked}
-use Rattle.moves.specs.declared.Move.{Move}
+use Rattle.moves.specs.First.{Verdict}
+use Rattle.moves.specs.Move.{Move}
 use Rattle.moves.specs.First.{Line, first, number_of}
-use Rattle.moves.specs.Move.{rank_of, marking_fits, asked_of}
+use Rattle.moves.specs.Move.{rank_of, marking_fits}
 use Rattle.rules.specs.Answers.{marking_lines, entry_lines, move_lines, the_move, entry_asked, after_entry}
 use Rattle.moves.specs.Given.{first_clear, first_refused, first_below, numbers_below, ascends, clear_head, clear_tail, first_above}
 use Rattle.moves.specs.Given.{clear_front, clear_back}
 use Rattle.rules.specs.Entries.{clear_moved, moved_clear, moved_after}
 use Rattle.tracker.specs.declared.Track.{Track}
-use Rattle.tracker.specs.declared.Tracked.{Tracked}
+use Rattle.tracker.specs.Tracked.{Tracked}
 use Rattle.tracker.specs.Tracker.{is_rank, pending, above, pool, meets, served, begin, rest, track_after, start_lines, rank_lines}
 use Rattle.tracker.specs.Tracker.{idle_lines, step_lines, tracked_of, the_start, the_idle, the_step}
+use Rattle.std.specs.Prelude.{Ok, Err}
+use Rattle.tracker.specs.declared.Unmoved.{Unmoved}
 
 -- ---- what is against graph and marking
 
-pub sound_outside : (g : Graph) (m : Marking) → graph_verdict g ≡ Verdict.Clear → marking_fits g.steps m ≡ false
-    → first (start_lines g m) ≡ Verdict.Refused Outside
+pub sound_outside : (g : Graph) (m : Marking) → graph_verdict g ≡ Ok tt → marking_fits g.steps m ≡ false
+    → first (start_lines g m) ≡ Err Outside
 unfolding first
 sound_outside g m e f =
-    first_clear (graph_lines g) (marking_lines g m) e ∙ ap (λ (b : Bool). cond (not b) (Verdict.Refused Outside) Verdict.Clear) f
+    first_clear (graph_lines g) (marking_lines g m) e ∙ ap (λ (b : Bool). cond (not b) (Err Outside) (Ok tt)) f
 
-pub sound_inside : (g : Graph) (m : Marking) → graph_verdict g ≡ Verdict.Clear → marking_fits g.steps m ≡ true
-    → first (start_lines g m) ≡ Verdict.Clear
+pub sound_inside : (g : Graph) (m : Marking) → graph_verdict g ≡ Ok tt → marking_fits g.steps m ≡ true
+    → first (start_lines g m) ≡ Ok tt
 unfolding first
 sound_inside g m e f =
-    first_clear (graph_lines g) (marking_lines g m) e ∙ ap (λ (b : Bool). cond (not b) (Verdict.Refused Outside) Verdict.Clear) f
+    first_clear (graph_lines g) (marking_lines g m) e ∙ ap (λ (b : Bool). cond (not b) (Err Outside) (Ok tt)) f
 
 -- where nothing is against the two, nothing is against the graph
-pub clear_graph : (g : Graph) (m : Marking) → first (start_lines g m) ≡ Verdict.Clear → graph_verdict g ≡ Verdict.Clear
+pub clear_graph : (g : Graph) (m : Marking) → first (start_lines g m) ≡ Ok tt → graph_verdict g ≡ Ok tt
 clear_graph g m e = clear_front (graph_lines g) (marking_lines g m) e
 
 -- and the marking names only steps of the graph
-pub clear_fits : (g : Graph) (m : Marking) → first (start_lines g m) ≡ Verdict.Clear → marking_fits g.steps m ≡ true
+pub clear_fits : (g : Graph) (m : Marking) → first (start_lines g m) ≡ Ok tt → marking_fits g.steps m ≡ true
 clear_fits g m e = not-false (marking_fits g.steps m) (clear_head _ _ (clear_back (graph_lines g) (marking_lines g m) e))
 
 -- a rank that there is lies within 1..n
@@ -59,89 +60,89 @@ rank_most n i e = leb-true i n (and_right (leb 1 i) (leb i n) e)
 -- ---- the answers, by what is found
 
 -- 2, 4, 6 and 8 come before 11: no state is given back with them
-sound_low : (g : Graph) (m : Marking) (r : Refusal) → first (start_lines g m) ≡ Verdict.Refused r → leb 11 (number_of r) ≡ false
+sound_low : (g : Graph) (m : Marking) (r : Refusal) → first (start_lines g m) ≡ Err r → leb 11 (number_of r) ≡ false
 unfolding numbers_below number_of
 sound_low g m r e = lt-leb 11 (number_of r) (let h : number_of r < 9 = first_below 9 (start_lines g m) r refl e in omega arith)
 
-refused_by : (g : Graph) (m : Marking) (more : List Line) (before next : Track) (r : Refusal) → first (start_lines g m) ≡ Verdict.Refused r
-    → tracked_of (first (start_lines g m ++ more)) before next ≡ Tracked.Refused r
+refused_by : (g : Graph) (m : Marking) (more : List Line) (before next : Track) (r : Refusal) → first (start_lines g m) ≡ Err r
+    → tracked_of (first (start_lines g m ++ more)) before next ≡ Err (Unmoved.Refused r)
 unfolding tracked_of
 refused_by g m more before next r e =
     ap (λ (v : Verdict). tracked_of v before next) (first_refused (start_lines g m) more r e)
-    ∙ ap (λ (b : Bool). cond b (Tracked.Stays before r) (Tracked.Refused r)) (sound_low g m r e)
+    ∙ ap (λ (b : Bool). cond b (Err (Unmoved.Stays before r)) (Err (Unmoved.Refused r))) (sound_low g m r e)
 
-rank_first : (g : Graph) (t : Track) (more : List Line) → first (start_lines g t.marking) ≡ Verdict.Clear
+rank_first : (g : Graph) (t : Track) (more : List Line) → first (start_lines g t.marking) ≡ Ok tt
     → first (start_lines g t.marking ++ rank_lines g t.rank ++ more) ≡ cond (not (is_rank g.steps t.rank.0))
-    (Verdict.Refused NoRank) (first more)
+    (Err NoRank) (first more)
 unfolding first
 rank_first g t more e = first_clear (start_lines g t.marking) (rank_lines g t.rank ++ more) e
 
-unranked_by : (g : Graph) (t : Track) (more : List Line) (before next : Track) → first (start_lines g t.marking) ≡ Verdict.Clear
+unranked_by : (g : Graph) (t : Track) (more : List Line) (before next : Track) → first (start_lines g t.marking) ≡ Ok tt
     → is_rank g.steps t.rank.0 ≡ false
-    → tracked_of (first (start_lines g t.marking ++ rank_lines g t.rank ++ more)) before next ≡ Tracked.Refused NoRank
+    → tracked_of (first (start_lines g t.marking ++ rank_lines g t.rank ++ more)) before next ≡ Err (Unmoved.Refused NoRank)
 unfolding tracked_of number_of
 unranked_by g t more before next e f =
     ap (λ (v : Verdict). tracked_of v before next)
-    (rank_first g t more e ∙ ap (λ (b : Bool). cond (not b) (Verdict.Refused NoRank) (first more)) f)
+    (rank_first g t more e ∙ ap (λ (b : Bool). cond (not b) (Err NoRank) (first more)) f)
 
-pub start_refused : (g : Graph) (m : Marking) (r : Refusal) → first (start_lines g m) ≡ Verdict.Refused r → the_start g m ≡ Tracked.Refused r
+pub start_refused : (g : Graph) (m : Marking) (r : Refusal) → first (start_lines g m) ≡ Err r → the_start g m ≡ Err (Unmoved.Refused r)
 unfolding the_start
 start_refused g m r e = refused_by g m [] (begin m) (begin m) r e
 
-pub start_clear : (g : Graph) (m : Marking) → first (start_lines g m) ≡ Verdict.Clear → the_start g m ≡ Tracked.At (begin m)
+pub start_clear : (g : Graph) (m : Marking) → first (start_lines g m) ≡ Ok tt → the_start g m ≡ Ok (begin m)
 unfolding the_start tracked_of
 start_clear g m e = ap (λ (v : Verdict). tracked_of v (begin m) (begin m)) e
 
-pub idle_refused : (g : Graph) (t : Track) (r : Refusal) → first (start_lines g t.marking) ≡ Verdict.Refused r
-    → the_idle g t ≡ Tracked.Refused r
+pub idle_refused : (g : Graph) (t : Track) (r : Refusal) → first (start_lines g t.marking) ≡ Err r
+    → the_idle g t ≡ Err (Unmoved.Refused r)
 unfolding the_idle
 idle_refused g t r e = refused_by g t.marking (rank_lines g t.rank) t (rest t) r e
 
-pub idle_unranked : (g : Graph) (t : Track) → first (start_lines g t.marking) ≡ Verdict.Clear → is_rank g.steps t.rank.0 ≡ false
-    → the_idle g t ≡ Tracked.Refused NoRank
+pub idle_unranked : (g : Graph) (t : Track) → first (start_lines g t.marking) ≡ Ok tt → is_rank g.steps t.rank.0 ≡ false
+    → the_idle g t ≡ Err (Unmoved.Refused NoRank)
 unfolding the_idle
 idle_unranked g t e f = unranked_by g t [] t (rest t) e f
 
-pub idle_clear : (g : Graph) (t : Track) → first (start_lines g t.marking) ≡ Verdict.Clear → is_rank g.steps t.rank.0 ≡ true
-    → the_idle g t ≡ Tracked.At (rest t)
+pub idle_clear : (g : Graph) (t : Track) → first (start_lines g t.marking) ≡ Ok tt → is_rank g.steps t.rank.0 ≡ true
+    → the_idle g t ≡ Ok (rest t)
 unfolding the_idle tracked_of first
 idle_clear g t e f =
     ap (λ (v : Verdict). tracked_of v t (rest t))
-    (rank_first g t [] e ∙ ap (λ (b : Bool). cond (not b) (Verdict.Refused NoRank) Verdict.Clear) f)
+    (rank_first g t [] e ∙ ap (λ (b : Bool). cond (not b) (Err NoRank) (Ok tt)) f)
 
-pub step_refused : (g : Graph) (t : Track) (e : Entry) (r : Refusal) → first (start_lines g t.marking) ≡ Verdict.Refused r
-    → the_step g t e ≡ Tracked.Refused r
+pub step_refused : (g : Graph) (t : Track) (e : Entry) (r : Refusal) → first (start_lines g t.marking) ≡ Err r
+    → the_step g t e ≡ Err (Unmoved.Refused r)
 unfolding the_step
 step_refused g t e r q = refused_by g t.marking (rank_lines g t.rank ++ entry_lines g t.marking e) t _ r q
 
-pub step_unranked : (g : Graph) (t : Track) (e : Entry) → first (start_lines g t.marking) ≡ Verdict.Clear
-    → is_rank g.steps t.rank.0 ≡ false → the_step g t e ≡ Tracked.Refused NoRank
+pub step_unranked : (g : Graph) (t : Track) (e : Entry) → first (start_lines g t.marking) ≡ Ok tt
+    → is_rank g.steps t.rank.0 ≡ false → the_step g t e ≡ Err (Unmoved.Refused NoRank)
 unfolding the_step
 step_unranked g t e q f = unranked_by g t (entry_lines g t.marking e) t _ q f
 
 -- what becomes of the tracker's state, by what is asked of the entry, which leads to `next`
-unfoldable pub entered : Asked → Track → Marking → ℕ → Tracked
-entered Asked.Allowed t next s = Tracked.At (track_after t next s)
-entered (Asked.Refused r) t next s = Tracked.Stays t r
+unfoldable pub entered : Verdict → Track → Marking → ℕ → Tracked
+entered (Ok _) t next s = Ok (track_after t next s)
+entered (Err r) t next s = Err (Unmoved.Stays t r)
 
-pub step_entered : (g : Graph) (t : Track) (e : Entry) → first (start_lines g t.marking) ≡ Verdict.Clear
+pub step_entered : (g : Graph) (t : Track) (e : Entry) → first (start_lines g t.marking) ≡ Ok tt
     → is_rank g.steps t.rank.0 ≡ true
     → the_step g t e ≡ entered (entry_asked g t.marking e) t (after_entry g t.marking e) e.step.0
-unfolding the_step tracked_of first entry_asked asked_of entered ascends number_of
+unfolding the_step tracked_of first entry_asked entered ascends number_of
 step_entered g t e q f =
     ap (λ (v : Verdict). tracked_of v t (track_after t next e.step.0))
     (rank_first g t (entry_lines g t.marking e) q
-    ∙ ap (λ (b : Bool). cond (not b) (Verdict.Refused NoRank) (first (entry_lines g t.marking e))) f)
+    ∙ ap (λ (b : Bool). cond (not b) (Err NoRank) (first (entry_lines g t.marking e))) f)
     ∙ go (first (entry_lines g t.marking e)) refl
   where
     next : Marking
     next = after_entry g t.marking e
 
     go : (v : Verdict) → first (entry_lines g t.marking e) ≡ v
-        → tracked_of v t (track_after t next e.step.0) ≡ entered (asked_of v) t next e.step.0
-    go Verdict.Clear p = refl
-    go (Verdict.Refused r) p =
-        ap (λ (b : Bool). cond b (Tracked.Stays t r) (Tracked.Refused r))
+        → tracked_of v t (track_after t next e.step.0) ≡ entered v t next e.step.0
+    go (Ok _) p = refl
+    go (Err r) p =
+        ap (λ (b : Bool). cond b (Err (Unmoved.Stays t r)) (Err (Unmoved.Refused r)))
         (le-leb 11 (number_of r) (let h : 10 < number_of r = first_above 10 (entry_lines g t.marking e) r refl p in omega arith))
 
 -- ---- H and x
@@ -203,26 +204,26 @@ rank_is t next e = either (served t.rank.0 (pending t.marking) (pending next) e)
 
 -- ---- what an answer with a state says
 
-tracked_at : (v : Verdict) (before next u : Track) → tracked_of v before next ≡ Tracked.At u → (v ≡ Verdict.Clear) × (next ≡ u)
+tracked_at : (v : Verdict) (before next u : Track) → tracked_of v before next ≡ Ok u → (v ≡ Ok tt) × (next ≡ u)
 unfolding tracked_of
-tracked_at Verdict.Clear before next u e = (refl, cc)
-tracked_at (Verdict.Refused r) before next u e = absurd (never (leb 11 (number_of r)) e)
+tracked_at (Ok _) before next u e = (refl, cc)
+tracked_at (Err r) before next u e = absurd (never (leb 11 (number_of r)) e)
   where
-    never : (b : Bool) → cond b (Tracked.Stays before r) (Tracked.Refused r) ≡ Tracked.At u → ⊥
+    never : (b : Bool) → cond b (Err (Unmoved.Stays before r)) (Err (Unmoved.Refused r)) ≡ Ok u → ⊥
     never true e = let z : ◌≡◌ {A = ℕ} 0 1 = cc in let w : ⊥ = omega arith in w
     never false e = let z : ◌≡◌ {A = ℕ} 0 1 = cc in let w : ⊥ = omega arith in w
 
-pub start_at : (g : Graph) (m : Marking) (u : Track) → the_start g m ≡ Tracked.At u → (first (start_lines g m) ≡ Verdict.Clear)
+pub start_at : (g : Graph) (m : Marking) (u : Track) → the_start g m ≡ Ok u → (first (start_lines g m) ≡ Ok tt)
     × (begin m ≡ u)
 unfolding the_start
 start_at g m u e = tracked_at (first (start_lines g m)) (begin m) (begin m) u e
 
 pub record Idled (g : Graph) (t u : Track) : Type 0 where
-  pub sound : first (start_lines g t.marking) ≡ Verdict.Clear
+  pub sound : first (start_lines g t.marking) ≡ Ok tt
   pub ranked : is_rank g.steps t.rank.0 ≡ true
   pub result : rest t ≡ u
 
-pub idle_at : (g : Graph) (t u : Track) → the_idle g t ≡ Tracked.At u → Idled g t u
+pub idle_at : (g : Graph) (t u : Track) → the_idle g t ≡ Ok u → Idled g t u
 unfolding the_idle
 idle_at g t u e =
     let at = tracked_at (first (idle_lines g t)) t (rest t) u e in
@@ -236,35 +237,35 @@ idle_at g t u e =
 -- the tracker moves exactly if the rank is one and the step is taken
 pub record Stepped (g : Graph) (t : Track) (e : Entry) (u : Track) : Type 0 where
   pub ranked : is_rank g.steps t.rank.0 ≡ true
-  pub moved : the_move g t.marking e ≡ Move.Moved u.marking
+  pub moved : the_move g t.marking e ≡ Ok u.marking
   pub result : track_after t u.marking e.step.0 ≡ u
 
-pub step_at_lem : (g : Graph) (t : Track) (e : Entry) (u : Track) → the_step g t e ≡ Tracked.At u → Stepped g t e u
+pub step_at_lem : (g : Graph) (t : Track) (e : Entry) (u : Track) → the_step g t e ≡ Ok u → Stepped g t e u
 unfolding the_step track_after
 step_at_lem g t e u q =
     let m = t.marking in
     let next : Marking = after_entry g m e in
     let at = tracked_at (first (step_lines g t e)) t (track_after t next e.step.0) u q in
-    let sound : first (start_lines g m) ≡ Verdict.Clear = clear_front (start_lines g m) (rank_lines g t.rank ++ entry_lines g m e) at.0 in
-    let back : first (rank_lines g t.rank ++ entry_lines g m e) ≡ Verdict.Clear =
+    let sound : first (start_lines g m) ≡ (Ok tt) = clear_front (start_lines g m) (rank_lines g t.rank ++ entry_lines g m e) at.0 in
+    let back : first (rank_lines g t.rank ++ entry_lines g m e) ≡ (Ok tt) =
     clear_back (start_lines g m) (rank_lines g t.rank ++ entry_lines g m e) at.0 in
-    let clear : first (move_lines g m e) ≡ Verdict.Clear = first_clear (start_lines g m) (entry_lines g m e) sound ∙ clear_tail _ _ back in
+    let clear : first (move_lines g m e) ≡ (Ok tt) = first_clear (start_lines g m) (entry_lines g m e) sound ∙ clear_tail _ _ back in
     let same : next ≡ u.marking = ap (λ (v : Track). v.marking) at.1 in
     record {
       ranked = not-false (is_rank g.steps t.rank.0) (clear_head _ _ back);
-      moved = clear_moved g m e clear ∙ ap Move.Moved same;
+      moved = clear_moved g m e clear ∙ ap Ok same;
       result = ap (λ (n : Marking). track_after t n e.step.0) (sym same) ∙ at.1;
     }
 
-pub at_step : (g : Graph) (t : Track) (e : Entry) (u : Track) → Stepped g t e u → the_step g t e ≡ Tracked.At u
+pub at_step : (g : Graph) (t : Track) (e : Entry) (u : Track) → Stepped g t e u → the_step g t e ≡ Ok u
 unfolding the_step tracked_of first
 at_step g t e u s =
     let m = t.marking in
     let next : Marking = after_entry g m e in
-    let all : first (start_lines g m ++ entry_lines g m e) ≡ Verdict.Clear = moved_clear g m u.marking e s.moved in
-    let clear : first (step_lines g t e) ≡ Verdict.Clear =
+    let all : first (start_lines g m ++ entry_lines g m e) ≡ (Ok tt) = moved_clear g m u.marking e s.moved in
+    let clear : first (step_lines g t e) ≡ (Ok tt) =
     rank_first g t (entry_lines g m e) (clear_front (start_lines g m) (entry_lines g m e) all)
-    ∙ ap₂ (λ (b : Bool) (v : Verdict). cond (not b) (Verdict.Refused NoRank) v) s.ranked
+    ∙ ap₂ (λ (b : Bool) (v : Verdict). cond (not b) (Err NoRank) v) s.ranked
     (clear_back (start_lines g m) (entry_lines g m e) all) in
     ap (λ (v : Verdict). tracked_of v t (track_after t next e.step.0)) clear
-    ∙ ap Tracked.At (ap (λ (n : Marking). track_after t n e.step.0) (moved_after g m u.marking e s.moved) ∙ s.result)
+    ∙ ap Ok (ap (λ (n : Marking). track_after t n e.step.0) (moved_after g m u.marking e s.moved) ∙ s.result)

@@ -5,13 +5,15 @@ use Rattle.rules.specs.Graph.{Graph, graph_lines}
 use Rattle.moves.specs.declared.Marking.{Marking}
 use Rattle.moves.specs.declared.Rank.{Rank}
 use Rattle.moves.specs.declared.Entry.{Entry}
-use Rattle.moves.specs.declared.Verdict.{Verdict}
+use Rattle.moves.specs.First.{Verdict}
 use Rattle.moves.specs.declared.Refusal.TheVariants.{NoRank}
 use Rattle.moves.specs.First.{Line, first, number_of, waiting_of}
 use Rattle.moves.specs.Move.{within1to, rank_of, after, is_finished}
 use Rattle.rules.specs.Answers.{row_of, marking_lines, entry_lines}
 use Rattle.tracker.specs.declared.Track.{Track}
-use Rattle.tracker.specs.declared.Tracked.{Tracked}
+use Rattle.tracker.specs.Tracked.{Tracked}
+use Rattle.std.specs.Prelude.{Ok, Err}
+use Rattle.tracker.specs.declared.Unmoved.{Unmoved}
 
 -- a rank is one of 1, 2, .., n
 abbrev pub is_rank : ℕ → ℕ → Bool
@@ -83,8 +85,8 @@ step_lines g t e = start_lines g t.marking ++ rank_lines g t.rank ++ entry_lines
 
 -- nothing against it: the state after. Else the refusal, from 11 on with the state handed in, below 11 with none, so that no rank is 0
 unfoldable pub tracked_of : Verdict → Track → Track → Tracked
-tracked_of Verdict.Clear before next = Tracked.At next
-tracked_of (Verdict.Refused r) before next = cond (leb 11 (number_of r)) (Tracked.Stays before r) (Tracked.Refused r)
+tracked_of (Ok _) before next = Ok next
+tracked_of (Err r) before next = cond (leb 11 (number_of r)) (Err (Unmoved.Stays before r)) (Err (Unmoved.Refused r))
 
 unfoldable pub the_start : Graph → Marking → Tracked
 the_start g m = tracked_of (first (start_lines g m)) (begin m) (begin m)
@@ -100,12 +102,12 @@ the_step g t e =
 
 -- 0 where there is a state after
 unfoldable pub number_of_tracked : Tracked → ℕ
-number_of_tracked (Tracked.At t) = 0
-number_of_tracked (Tracked.Refused r) = number_of r
-number_of_tracked (Tracked.Stays t r) = number_of r
+number_of_tracked (Ok t) = 0
+number_of_tracked (Err (Unmoved.Refused r)) = number_of r
+number_of_tracked (Err (Unmoved.Stays t r)) = number_of r
 
 -- with 15 the steps that are waited for
 unfoldable pub waiting_of_tracked : Tracked → ℕ
-waiting_of_tracked (Tracked.At t) = 0
-waiting_of_tracked (Tracked.Refused r) = waiting_of r
-waiting_of_tracked (Tracked.Stays t r) = waiting_of r
+waiting_of_tracked (Ok t) = 0
+waiting_of_tracked (Err (Unmoved.Refused r)) = waiting_of r
+waiting_of_tracked (Err (Unmoved.Stays t r)) = waiting_of r

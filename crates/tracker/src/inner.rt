@@ -9,17 +9,17 @@ use moves::{Marking, Rank, Refusal, Step, Verdict};
 use rules::Job;
 
 // What is against the graph and the marking. Refusals 2, 4, 6, 8.
-pub fn sound(g: &Job, m: Marking) -> Verdict
+pub fn sound(g: &Job, m: Marking) -> Result<(), Refusal>
     ensures { result ≡ first (start_lines (graph_of g.now) m) }
 {
     let v = rules::check(g);
-    if let Verdict::Refused(r) = v {
-        return Verdict::Refused(r);
+    if let Err(r) = v {
+        return Err(r);
     }
     if !moves::inner::fits(g[0], m) {
-        return Verdict::Refused(Refusal::Outside);
+        return Err(Refusal::Outside);
     }
-    Verdict::Clear
+    Ok(())
 }
 
 // Is this the rank of one of n steps?

@@ -29,43 +29,43 @@ pub enum Tracked {
 }
 
 // The state that a marking starts with. Refusals 2, 4, 6, 8.
-pub fn start(g: &Job, m: Marking) -> Tracked
+pub fn start(g: &Job, m: Marking) -> Result<Track, Unmoved>
     ensures { result ≡ the_start (graph_of g.now) m }
 {
     let v = sound(g, m);
-    if let Verdict::Refused(r) = v {
-        return Tracked::Refused(r);
+    if let Err(r) = v {
+        return Err(Unmoved::Refused(r));
     }
-    Tracked::At(begin(m))
+    Ok(begin(m))
 }
 
 // A move in which nothing is done. Refusals 2, 4, 6, 8, 9.
-pub fn idle(g: &Job, t: Track) -> Tracked
+pub fn idle(g: &Job, t: Track) -> Result<Track, Unmoved>
     ensures { result ≡ the_idle (graph_of g.now) t }
 {
     let v = sound(g, t.marking);
-    if let Verdict::Refused(r) = v {
-        return Tracked::Refused(r);
+    if let Err(r) = v {
+        return Err(Unmoved::Refused(r));
     }
     if !ranked(g[0], t.rank) {
         return Tracked::Refused(Refusal::NoRank);
     }
-    Tracked::At(rest(t))
+    Ok(rest(t))
 }
 
 // Take one step. Refusals 2, 4, 6, 8, 9, 11 to 15.
-pub fn advance(g: &Job, t: Track, e: Entry) -> Tracked
+pub fn advance(g: &Job, t: Track, e: Entry) -> Result<Track, Unmoved>
     ensures { result ≡ the_step (graph_of g.now) t e }
 {
     let v = sound(g, t.marking);
-    if let Verdict::Refused(r) = v {
-        return Tracked::Refused(r);
+    if let Err(r) = v {
+        return Err(Unmoved::Refused(r));
     }
     if !ranked(g[0], t.rank) {
         return Tracked::Refused(Refusal::NoRank);
     }
     match ask_entry(g, t.marking, e) {
-        Asked::Refused(r) => Tracked::Stays(t, r),
-        Asked::Allowed => Tracked::At(follow(t, taken(g, t.marking, e), e.step)),
+        Err(r) => Err(Unmoved::Stays(t, r)),
+        Ok(()) => Ok(follow(t, taken(g, t.marking, e), e.step)),
     }
 }

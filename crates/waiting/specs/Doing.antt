@@ -6,7 +6,7 @@ use Rattle.sets.specs.Sets.{has}
 use Rattle.sets.specs.Truth.{or_first, or_second, or_split}
 use Rattle.moves.specs.declared.Marking.{Marking}
 use Rattle.moves.specs.declared.Entry.{Entry}
-use Rattle.moves.specs.declared.Move.{Move}
+use Rattle.moves.specs.Move.{Move}
 use Rattle.moves.specs.Move.{after, number_of_move, waiting_of_move}
 use Rattle.moves.specs.Inside.{Inside, fits_inside, inside_fits}
 use Rattle.rules.specs.Graph.{Graph}
@@ -15,10 +15,11 @@ use Rattle.rules.specs.Signs.{◌∈◌, Ex, In}
 use Rattle.rules.specs.Paper.{condition, Ready, after_done}
 use Rattle.rules.proofs.Taken.{allowed_taken}
 use Rattle.rules.specs.Entries.{moved_after}
-use Rattle.journal.specs.declared.Ran.{Ran}
+use Rattle.journal.specs.Ran.{Ran}
 use Rattle.journal.specs.Run.{marking_of_run}
 use Rattle.runs.specs.Runs.{Passes, passes_run, run_within}
 use Rattle.waiting.specs.Entry.{waited_for, Otherwise, otherwise_allowed, move_tells, waits_exactly}
+use Rattle.std.specs.Prelude.{Ok}
 
 -- step a is taken by one of the entries
 unfoldable pub occurs : ℕ → List Entry → Bool
@@ -77,7 +78,7 @@ within_after g m m' e es r p =
 pub then_taken : (g : Graph) (m m' : Marking) (e : Entry) (es : List Entry) → number_of_move (the_move g m e) ≡ 15
     → Passes g m es m' → In m' ≡ In m
     → ((a : ℕ) → has (waiting_of_move (the_move g m e)) a ≡ true → occurs a es ≡ true)
-    → the_move g m' e ≡ Move.Moved (after (row_of g e.person e.step.0) m' e.step.0)
+    → the_move g m' e ≡ Ok (after (row_of g e.person e.step.0) m' e.step.0)
 then_taken g m m' e es is p same all =
     let o : Otherwise g m e = ((waits_exactly g m e).0 is).0 in
     let free = waits_no_more g m m' e.step.0 es p same (λ a w. all a ((move_tells g m e).exactly is a ∙ w)) in

@@ -7,12 +7,12 @@ use Rattle.sets.specs.Truth.{is_false}
 use Rattle.sets.specs.Laws.{lowest_has, empty_members, members_empty, meet_lt, minus_lt}
 use Rattle.moves.specs.declared.Marking.{Marking}
 use Rattle.moves.specs.declared.Entry.{Entry}
-use Rattle.moves.specs.declared.Move.{Move}
+use Rattle.moves.specs.Move.{Move}
 use Rattle.moves.specs.declared.Refusal.{Refusal}
 use Rattle.moves.specs.declared.Refusal.TheVariants.{Layout, Counts, Bodies, Beyond, Arrows, Both, Length, Outside, NoRank}
 use Rattle.moves.specs.declared.Refusal.TheVariants.{IllFormed, Unknown, NotHeld, NotOnStep, Excluded, Waits, NotApplied, EmptyLap}
 use Rattle.moves.specs.declared.Refusal.TheVariants.{Room, Store, Arms}
-use Rattle.moves.specs.declared.Verdict.{Verdict}
+use Rattle.moves.specs.First.{Verdict}
 use Rattle.moves.specs.First.{Line, first, number_of, waiting_of, number_of_verdict}
 use Rattle.moves.specs.Move.{waits_for, marking_fits, number_of_asked, waiting_of_asked, number_of_move, waiting_of_move}
 use Rattle.moves.specs.Given.{numbers_below, first_clear, first_late, clear_head, clear_front, clear_back}
@@ -23,6 +23,7 @@ use Rattle.rules.specs.Paper.{condition, Allowed, Ready, has_waits, lines_allowe
 use Rattle.rules.specs.Asking.{asked_number, asked_waiting}
 use Rattle.rules.specs.Entries.{refused_first}
 use Rattle.rules.specs.Sound.{clear_sound}
+use Rattle.std.specs.Prelude.{Ok, Err}
 
 -- ---- what is said
 
@@ -64,13 +65,13 @@ pub record Waited (g : Graph) (m : Marking) (e : Entry) (r : Refusal) : Type 0 w
   pub some : empty (waits_for (conditions_of g e.step.0) m) ≡ false
   pub refusal : r ≡ Waits (waits_for (conditions_of g e.step.0) m)
 
-not_fifteen : {A : Type 0} (q r : Refusal) → Verdict.Refused q ≡ Verdict.Refused r → number_of q < 15 → number_of r ≡ 15 → A
+not_fifteen : {A : Type 0} (q r : Refusal) → Err q ≡ Err r → number_of q < 15 → number_of r ≡ 15 → A
 not_fifteen q r e low is =
     let same : q ≡ r = cc in
     let other : number_of q ≡ number_of r = ap number_of same in
     absurd (let w : ⊥ = omega arith in w)
 
-pub waited : (g : Graph) (m : Marking) (e : Entry) (r : Refusal) → first (entry_lines g m e) ≡ Verdict.Refused r → number_of r ≡ 15
+pub waited : (g : Graph) (m : Marking) (e : Entry) (r : Refusal) → first (entry_lines g m e) ≡ Err r → number_of r ≡ 15
     → Waited g m e r
 unfolding first number_of
 waited g m e r q is =
@@ -82,12 +83,12 @@ waited g m e r q is =
         → has (roles_of g e.step.0) e.role ≡ o
         → (i : Bool) → has m.included e.step.0 ≡ i
         → (n : Bool) → empty (waits_for (conditions_of g e.step.0) m) ≡ n
-        → cond (not k) (Verdict.Refused Unknown)
-        (cond (not h) (Verdict.Refused NotHeld)
-        (cond (not o) (Verdict.Refused NotOnStep)
-        (cond (not i) (Verdict.Refused Excluded)
-        (cond (not n) (Verdict.Refused (Waits (waits_for (conditions_of g e.step.0) m))) Verdict.Clear))))
-        ≡ Verdict.Refused r
+        → cond (not k) (Err Unknown)
+        (cond (not h) (Err NotHeld)
+        (cond (not o) (Err NotOnStep)
+        (cond (not i) (Err Excluded)
+        (cond (not n) (Err (Waits (waits_for (conditions_of g e.step.0) m))) (Ok tt)))))
+        ≡ Err r
         → Waited g m e r
     go false a h b o c i d n f t = not_fifteen Unknown r t (let z : 11 < 15 = omega arith in z) is
     go true a false b o c i d n f t = not_fifteen NotHeld r t (let z : 12 < 15 = omega arith in z) is
@@ -125,7 +126,7 @@ waiting_none Arms f = refl
 
 -- a refusal that is 15 only as the entry's own tells what the entry's step waits for
 pub refusal_tells : (g : Graph) (m : Marking) (e : Entry) (r : Refusal)
-    → (number_of r ≡ 15 → first (entry_lines g m e) ≡ Verdict.Refused r)
+    → (number_of r ≡ 15 → first (entry_lines g m e) ≡ Err r)
     → Tells g m e.step.0 (number_of r) (waiting_of r)
 unfolding waiting_of
 refusal_tells g m e r own =
@@ -153,8 +154,8 @@ nothing_told g m s =
 abbrev before_entry : Graph → Marking → List Line
 before_entry g m = graph_lines g ++ marking_lines g m
 
-pub entry_refused : (g : Graph) (m : Marking) (e : Entry) (r : Refusal) → first (move_lines g m e) ≡ Verdict.Refused r → number_of r ≡ 15
-    → (first (before_entry g m) ≡ Verdict.Clear) × (first (entry_lines g m e) ≡ Verdict.Refused r)
+pub entry_refused : (g : Graph) (m : Marking) (e : Entry) (r : Refusal) → first (move_lines g m e) ≡ Err r → number_of r ≡ 15
+    → (first (before_entry g m) ≡ Ok tt) × (first (entry_lines g m e) ≡ Err r)
 unfolding numbers_below number_of
 entry_refused g m e r q is =
     first_late 11 (before_entry g m) (entry_lines g m e) r refl q (let z : 11 ≤ number_of r = omega arith in z)
@@ -166,8 +167,8 @@ unfolding number_of_move waiting_of_move
 move_tells g m e = go (the_move g m e) refl
   where
     go : (o : Move) → the_move g m e ≡ o → Tells g m e.step.0 (number_of_move o) (waiting_of_move o)
-    go (Move.Moved next) p = nothing_told g m e.step.0
-    go (Move.Refused back r) p = refusal_tells g m e r (λ is. (entry_refused g m e r (refused_first g m back e r p) is).1)
+    go (Ok next) p = nothing_told g m e.step.0
+    go (Err d) p = refusal_tells g m e d.refusal (λ is. (entry_refused g m e d.refusal (refused_first g m d.marking e d.refusal p) is).1)
 
 -- and asking tells the same
 pub ask_tells : (g : Graph) (m : Marking) (e : Entry)
@@ -176,7 +177,7 @@ ask_tells g m e =
     subst (λ (n : ℕ). Tells g m e.step.0 n (waiting_of_asked (the_asked g m e))) (sym (asked_number g m e))
     (subst (Tells g m e.step.0 (number_of_move (the_move g m e))) (sym (asked_waiting g m e)) (move_tells g m e))
 
-ready : (g : Graph) (m : Marking) (e : Entry) → first (before_entry g m) ≡ Verdict.Clear → entry_known g e ≡ true → Ready g m e
+ready : (g : Graph) (m : Marking) (e : Entry) → first (before_entry g m) ≡ Ok tt → entry_known g e ≡ true → Ready g m e
 ready g m e clear known =
     record {
       graph = clear_front (graph_lines g) (marking_lines g m) clear;
@@ -195,11 +196,11 @@ waits_exactly g m e = (λ is. there (first (move_lines g m e)) refl (sym (move_n
 
     there : (v : Verdict) → first (move_lines g m e) ≡ v → number_of_verdict v ≡ 15
         → Otherwise g m e × ((a : ℕ) × (waited_for g m e.step.0 a ≡ true))
-    there Verdict.Clear p is = absurd (let w : ⊥ = omega arith in w)
-    there (Verdict.Refused r) p is =
+    there (Ok _) p is = absurd (let w : ⊥ = omega arith in w)
+    there (Err r) p is =
         let parts = entry_refused g m e r p is in
         let w : Waited g m e r = waited g m e r parts.1 is in
-        let clear : graph_verdict g ≡ Verdict.Clear = clear_front (graph_lines g) (marking_lines g m) parts.0 in
+        let clear : graph_verdict g ≡ (Ok tt) = clear_front (graph_lines g) (marking_lines g m) parts.0 in
         let small : awaited < 2 ^ g.steps =
         minus_lt g.steps (meet (conditions_of g e.step.0) m.included) m.done
         (meet_lt g.steps (conditions_of g e.step.0) m.included ((clear_sound g clear).conditions_in e.step.0)) in (
@@ -220,7 +221,7 @@ waits_exactly g m e = (λ is. there (first (move_lines g m e)) refl (sym (move_n
     back h = move_number g m e ∙ ap number_of_verdict (given h.0 h.1.0 h.1.1)
       where
         given : Otherwise g m e → (a : ℕ) → waited_for g m e.step.0 a ≡ true
-            → first (move_lines g m e) ≡ Verdict.Refused (Waits (waits_for (conditions_of g e.step.0) m))
+            → first (move_lines g m e) ≡ Err (Waits (waits_for (conditions_of g e.step.0) m))
         given o a w =
             let some : empty (waits_for (conditions_of g e.step.0) m) ≡ false =
             is_false _ (λ none. true≢false (sym w ∙ sym (has_waits (conditions_of g e.step.0) m a)

@@ -4,7 +4,7 @@ use Rattle.std.proofs.Common.{sym, ap, ◌∙◌, subst, arith}
 use Rattle.std.proofs.lemmas.Bool.{not-false}
 use Rattle.sets.specs.Truth.{and_false, and_true, and_left, and_right}
 use Rattle.moves.specs.declared.Marking.{Marking}
-use Rattle.moves.specs.declared.Verdict.{Verdict}
+use Rattle.moves.specs.First.{Verdict}
 use Rattle.moves.specs.declared.Refusal.TheVariants.{Counts, Beyond}
 use Rattle.moves.specs.First.{first}
 use Rattle.moves.specs.Given.{clear_head, clear_tail}
@@ -18,16 +18,17 @@ use Rattle.arrows.specs.Arrows.{arrows_body}
 use Rattle.arrows.specs.Rows.{Kept, kind_rows, turned_in}
 use Rattle.arrows.specs.Loops.{body_most}
 use Rattle.writing.specs.Writing.{arrow_table, content_lines}
+use Rattle.std.specs.Prelude.{Ok, Err}
 
 -- ---- what may be against the content
 
 pub content_counts : (g : Graph) (m : Marking) → counts_fit g.steps g.people g.roles g.actions ≡ false
-    → first (content_lines g m) ≡ Verdict.Refused Counts
+    → first (content_lines g m) ≡ Err Counts
 unfolding first
 content_counts g m a = simp a
 
 pub content_beyond : (g : Graph) (m : Marking) → counts_fit g.steps g.people g.roles g.actions ≡ true
-    → marking_fits g.steps m ≡ false → first (content_lines g m) ≡ Verdict.Refused Beyond
+    → marking_fits g.steps m ≡ false → first (content_lines g m) ≡ Err Beyond
 unfolding first
 content_beyond g m a b = simp (a, b, and_false)
 
@@ -36,14 +37,14 @@ pub content_graph : (g : Graph) (m : Marking) → marking_fits g.steps m ≡ tru
 unfolding first
 content_graph g m b = simp (b, and_true)
 
-module _ (g : Graph) (m : Marking) (e : first (content_lines g m) ≡ Verdict.Clear) where
+module _ (g : Graph) (m : Marking) (e : first (content_lines g m) ≡ Ok tt) where
   pub marking_clear : marking_fits g.steps m ≡ true
   marking_clear =
       let both : (sets_fit g && marking_fits g.steps m) ≡ true =
       not-false (sets_fit g && marking_fits g.steps m) (clear_head _ _ (clear_tail _ _ e)) in
       and_right (sets_fit g) (marking_fits g.steps m) both
 
-  pub graph_clear : graph_verdict g ≡ Verdict.Clear
+  pub graph_clear : graph_verdict g ≡ Ok tt
   graph_clear = sym (content_graph g m marking_clear) ∙ e
 
 -- ---- a graph that nothing is against, table by table
@@ -59,7 +60,7 @@ pub record Fitting (g : Graph) : Type 0 where
   pub excludes_kept : keeps g.steps g.steps g.excludes ≡ true
   pub apart : kinds_apart g.steps g.includes g.excludes ≡ true
 
-pub clear_fitting : (g : Graph) → graph_verdict g ≡ Verdict.Clear → Fitting g
+pub clear_fitting : (g : Graph) → graph_verdict g ≡ Ok tt → Fitting g
 unfolding sets_fit
 clear_fitting g e =
     let a = keeps g.actions g.roles g.allows in
@@ -99,7 +100,7 @@ pub kind_lies : (block : List ℕ) (kind : ℕ) → kind < 4 → kind_rows (arro
 kind_lies block kind h =
     ap (λ (t : List ℕ). kind_rows t kind) (kinds_joined block) ∙ table_of_table 4 256 (kind * 64) 64 block (omega arith)
 
-pub table_kept : (block : List ℕ) → graph_verdict (graph_of block) ≡ Verdict.Clear → Kept (row block 0) (arrow_table (graph_of block))
+pub table_kept : (block : List ℕ) → graph_verdict (graph_of block) ≡ Ok tt → Kept (row block 0) (arrow_table (graph_of block))
 table_kept block e =
     record {
       few = fitting.counted.steps_most;
@@ -119,8 +120,8 @@ table_kept block e =
     kind_kept (suc (suc (suc (suc kind)))) h = absurd (let z : ⊥ = omega arith in z)
 
 -- the table as the writer of arrows is handed it
-pub part_kept : (block : List ℕ) → graph_verdict (graph_of block) ≡ Verdict.Clear → Kept (row block 0) (table_at 4 256 block)
+pub part_kept : (block : List ℕ) → graph_verdict (graph_of block) ≡ Ok tt → Kept (row block 0) (table_at 4 256 block)
 part_kept block e = subst (Kept (row block 0)) (kinds_joined block) (table_kept block e)
 
-pub arrows_most : (block : List ℕ) → graph_verdict (graph_of block) ≡ Verdict.Clear → length (arrows_body (arrow_table (graph_of block))) ≤ 49152
+pub arrows_most : (block : List ℕ) → graph_verdict (graph_of block) ≡ Ok tt → length (arrows_body (arrow_table (graph_of block))) ≤ 49152
 arrows_most block e = body_most (row block 0) (turned_of (graph_of block)) (arrow_table (graph_of block)) (table_kept block e) refl

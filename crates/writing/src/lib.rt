@@ -2,7 +2,6 @@
 #![tactic(auto)]
 
 ghost use Rattle.std.specs.Prelude.{◌≡◌, ◌+◌, ◌*◌, ◌≤◌, ◌++◌, length};
-ghost use Rattle.moves.specs.declared.Verdict.{Verdict};
 ghost use Rattle.moves.specs.First.{first};
 ghost use Rattle.rules.specs.Graph.{graph_of, graph_verdict};
 ghost use Rattle.numbers.specs.Numbers.{Spliced};
@@ -16,7 +15,7 @@ use moves::{Marking, Refusal, Verdict};
 use rules::{ALLOWS, CONDITIONS, HOLDS, Job, LABELS, RESPONSES, WORDS};
 
 // Refusals 2, 4, 6.
-pub fn content(g: &Job, m: Marking) -> Verdict
+pub fn content(g: &Job, m: Marking) -> Result<(), Refusal>
     ensures { result ≡ first (content_lines (graph_of g.now) m) }
 {
     let steps = g[0];
@@ -24,17 +23,17 @@ pub fn content(g: &Job, m: Marking) -> Verdict
     let roles = g[2];
     let actions = g[3];
     if !tables::counts_fit(steps, people, roles, actions) {
-        return Verdict::Refused(Refusal::Counts);
+        return Err(Refusal::Counts);
     }
     if !moves::inner::fits(steps, m) {
-        return Verdict::Refused(Refusal::Beyond);
+        return Err(Refusal::Beyond);
     }
     rules::check(g)
 }
 
 // The conditions by the step that is waited for, as they are written.
 pub fn turned(g: &Job) -> [u64; 64]
-    requires { graph_verdict (graph_of g.now) ≡ Verdict.Clear }
+    requires { graph_verdict (graph_of g.now) ≡ Ok tt }
     ensures { result ≡ turned_of (graph_of g.now) }
 {
     let n = g[0] as u8;
@@ -44,7 +43,7 @@ pub fn turned(g: &Job) -> [u64; 64]
 
 // How long the sheet is.
 pub fn size<'a>(g: &'a Job, turned: &'a [u64; 64]) -> usize
-    requires { (graph_verdict (graph_of g.now) ≡ Verdict.Clear) × (turned.now ≡ turned_of (graph_of g.now)) }
+    requires { (graph_verdict (graph_of g.now) ≡ Ok tt) × (turned.now ≡ turned_of (graph_of g.now)) }
     ensures { result ≡ length_out (graph_of g.now) }
 {
     let n = g[0];
@@ -66,7 +65,7 @@ fn write_front(n: usize, p: usize, a: usize, arrows: usize, room: &mut [u8]) -> 
 
 // Bodies 3 to 6.
 fn write_tables<'a>(g: &'a Job, turned: &'a [u64; 64], room: &mut [u8], at: usize) -> usize
-    requires g_value { (graph_verdict (graph_of g.now) ≡ Verdict.Clear) × (turned.now ≡ turned_of (graph_of g.now)) }
+    requires g_value { (graph_verdict (graph_of g.now) ≡ Ok tt) × (turned.now ≡ turned_of (graph_of g.now)) }
     requires g_in_bounds { at + length (tables_out (graph_of g.now)) ≤ length room.old }
     ensures { Spliced (tables_out (graph_of g.now)) at room.old room.new result }
 {
@@ -87,7 +86,7 @@ fn write_bodies<'a>(
     room: &mut [u8],
     at: usize,
 ) -> usize
-    requires g_value { (graph_verdict (graph_of g.now) ≡ Verdict.Clear) × (turned.now ≡ turned_of (graph_of g.now)) }
+    requires g_value { (graph_verdict (graph_of g.now) ≡ Ok tt) × (turned.now ≡ turned_of (graph_of g.now)) }
     requires m_in_bounds { at + length (bodies_out (graph_of g.now) m) ≤ length room.old }
     ensures { Spliced (bodies_out (graph_of g.now) m) at room.old room.new result }
 {
@@ -110,7 +109,7 @@ pub fn fill<'a>(
     size: usize,
     room: &mut [u8],
 ) -> usize
-    requires g_value { (graph_verdict (graph_of g.now) ≡ Verdict.Clear) × (turned.now ≡ turned_of (graph_of g.now)) }
+    requires g_value { (graph_verdict (graph_of g.now) ≡ Ok tt) × (turned.now ≡ turned_of (graph_of g.now)) }
     requires size_value { (size ≡ length_out (graph_of g.now)) × (size ≤ length room.old) }
     ensures { Spliced (sheet_bytes (graph_of g.now) m) 0 room.old room.new result }
 {

@@ -1,13 +1,14 @@
 -- `fold`: the graph's refusal, then the length's, then the record of the entries. Assumes nothing.
 use mathlib.Core.Path.{◌≡◌, sym, ◌∙◌, ap}
 use mathlib.Core.Bool.{true, false}
-use Rattle.moves.specs.declared.Verdict.{Verdict}
+use Rattle.moves.specs.First.{Verdict}
 use Rattle.rules.specs.Graph.{Graph, graph_of, graph_verdict}
 use Rattle.journal.specs.Journal.{length_fits}
 use Rattle.journal.specs.Laws.{fits_threes}
-use Rattle.records.specs.declared.Recorded.{Recorded}
+use Rattle.records.specs.Answers.{Recorded}
 use Rattle.folding.specs.Answered.{fold_graph, fold_length, fold_clear}
 use Rattle.folding.proofs.fold.Goals as goal
+use Rattle.std.specs.Prelude.{Ok}
 
 pub returns-in-Refused : goal.returns-in-Refused
 returns-in-Refused c =
@@ -19,7 +20,7 @@ pub returns-then-not-length_fits : goal.returns-then-not-length_fits
 returns-then-not-length_fits c =
     let a = c.args in
     let g : Graph = graph_of a.g.now in
-    let clear : graph_verdict g ≡ Verdict.Clear = sym c.check-v.ensures
+    let clear : graph_verdict g ≡ (Ok tt) = sym c.check-v.ensures
     ∙ c.in_default.is in
     let long : length_fits a.j.now ≡ false = sym c.length_fits.ensures ∙ c.if-not-length_fits.true in
     sym (fold_length g a.j.now clear long)
@@ -28,7 +29,7 @@ pub fold_entries-requires : goal.fold_entries-requires
 fold_entries-requires c =
     let a = c.args in
     let g : Graph = graph_of a.g.now in
-    let clear : graph_verdict g ≡ Verdict.Clear = sym c.check-v.ensures
+    let clear : graph_verdict g ≡ (Ok tt) = sym c.check-v.ensures
     ∙ c.in_default.is in
     let long : length_fits a.j.now ≡ true = sym c.length_fits.ensures ∙ c.if-not-length_fits.false in
     (clear, fits_threes a.j.now long)
@@ -37,7 +38,7 @@ pub returns : goal.returns
 returns c =
     let a = c.args in
     let g : Graph = graph_of a.g.now in
-    let clear : graph_verdict g ≡ Verdict.Clear = sym c.check-v.ensures
+    let clear : graph_verdict g ≡ (Ok tt) = sym c.check-v.ensures
     ∙ c.in_default.is in
     let long : length_fits a.j.now ≡ true = sym c.length_fits.ensures ∙ c.if-not-length_fits.false in
-    ap Recorded.Made c.fold_entries.ensures ∙ sym (fold_clear g a.j.now clear long)
+    ap Ok c.fold_entries.ensures ∙ sym (fold_clear g a.j.now clear long)

@@ -5,7 +5,7 @@ use mathlib.Core.Path.{◌≡◌, sym, ◌∙◌, ap}
 use mathlib.Core.Bool.{true, false}
 use borrow.Author.Rules.{rules}
 use Rattle.moves.specs.declared.Marking.{Marking}
-use Rattle.moves.specs.declared.Verdict.{Verdict}
+use Rattle.moves.specs.First.{Verdict}
 use Rattle.rules.specs.Graph.{Graph, graph_of, graph_verdict}
 use Rattle.moves.specs.Move.{marking_fits}
 use Rattle.rules.specs.Laws.{clear_counts}
@@ -16,6 +16,7 @@ use Rattle.records.specs.Records.{applies, well_formed}
 use Rattle.folding.specs.Answered.{restore_graph, restore_length, restore_outside, restore_ill, restore_on}
 use Rattle.folding.proofs.restore.Goals as goal
 use Rattle.folding.proofs.restore.Goals.{After-length_fits, Else-not-fits, Else-not-length_fits, Else-not-suits, Else-not-well_formed}
+use Rattle.std.specs.Prelude.{Ok}
 
 pub returns-in-Refused : goal.returns-in-Refused
 returns-in-Refused c =
@@ -26,7 +27,7 @@ returns-in-Refused c =
 abbrev graph : After-length_fits → Graph
 graph c = graph_of c.args.g.now
 
-clear : (c : After-length_fits) → graph_verdict (graph c) ≡ Verdict.Clear
+clear : (c : After-length_fits) → graph_verdict (graph c) ≡ Ok tt
 clear c = sym c.check-v.ensures ∙ c.in_default.is
 
 long : (c : Else-not-length_fits) → length_fits c.args.j.now ≡ true

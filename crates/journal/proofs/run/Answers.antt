@@ -3,7 +3,7 @@
 use mathlib.Core.Path.{◌≡◌, sym, ◌∙◌}
 use mathlib.Core.Bool.{true, false}
 use native.Mathlib.Omega.{arith}
-use Rattle.moves.specs.declared.Verdict.{Verdict}
+use Rattle.moves.specs.First.{Verdict}
 use Rattle.rules.specs.Graph.{Graph, graph_of, graph_verdict}
 use Rattle.moves.specs.Move.{marking_fits}
 use Rattle.tables.specs.Laws.{Counted}
@@ -12,11 +12,12 @@ use Rattle.journal.specs.Journal.{length_fits}
 use Rattle.journal.specs.Laws.{fits_threes, fits_most, run_graph, run_length, run_outside, run_inside}
 use Rattle.journal.proofs.run.Goals as goal
 use Rattle.journal.proofs.run.Goals.{Else-not-length_fits, In_default}
+use Rattle.std.specs.Prelude.{Ok}
 
 abbrev graph : In_default → Graph
 graph p = graph_of p.args.g.now
 
-clear : (p : In_default) → graph_verdict (graph p) ≡ Verdict.Clear
+clear : (p : In_default) → graph_verdict (graph p) ≡ Ok tt
 clear p = sym p.check-v.ensures ∙ p.in_default.is
 
 -- behind the length's

@@ -6,7 +6,7 @@ use lib.ListN.{length}
 use lib.Dec.{eqb}
 use borrow.Author.Tests.{eq-eqb, ne_eqb}
 use Rattle.sets.specs.Truth.{and_left, and_right}
-use Rattle.moves.specs.declared.Verdict.{Verdict}
+use Rattle.moves.specs.First.{Verdict}
 use Rattle.rules.specs.Graph.{Graph, graph_of, graph_verdict}
 use Rattle.moves.specs.Move.{marking_fits}
 use Rattle.tables.specs.Laws.{Counted}
@@ -17,6 +17,7 @@ use Rattle.laps.specs.Laps.{LapAnswer}
 use Rattle.laps.specs.Ways.{lines_graph, lines_length, lines_outside, lines_empty, lines_clear}
 use Rattle.laps.proofs.Right.{decision_right}
 use Rattle.laps.proofs.lap.Goals as goal
+use Rattle.std.specs.Prelude.{Ok}
 
 pub returns-in-Refused : goal.returns-in-Refused
 unfolding LapAnswer
@@ -34,7 +35,7 @@ returns-then-not-length_fits c =
     let g : Graph = graph_of a.g.now in
     let s = a.stem.now in
     let l = a.lap.now in
-    let clear : graph_verdict g ≡ Verdict.Clear = sym c.check-v.ensures
+    let clear : graph_verdict g ≡ (Ok tt) = sym c.check-v.ensures
     ∙ c.in_default.is in
     lines_length g a.m s l clear
     (sym (ap₂ ◌&&◌ c.length_fits.ensures c.length_fits-2.ensures) ∙ c.if-not-length_fits.true)
@@ -43,7 +44,7 @@ pub fits-requires : goal.fits-requires
 fits-requires c =
     let a = c.args in
     let g : Graph = graph_of a.g.now in
-    let clear : graph_verdict g ≡ Verdict.Clear = sym c.check-v.ensures
+    let clear : graph_verdict g ≡ (Ok tt) = sym c.check-v.ensures
     ∙ c.in_default.is in
     let b : Counted g.steps g.people g.roles g.actions = clear_counts g clear in
     b.steps_most
@@ -55,7 +56,7 @@ returns-then-not-fits c =
     let g : Graph = graph_of a.g.now in
     let s = a.stem.now in
     let l = a.lap.now in
-    let clear : graph_verdict g ≡ Verdict.Clear = sym c.check-v.ensures
+    let clear : graph_verdict g ≡ (Ok tt) = sym c.check-v.ensures
     ∙ c.in_default.is in
     let long : (length_fits s && length_fits l) ≡ true =
     sym (ap₂ ◌&&◌ c.length_fits.ensures c.length_fits-2.ensures)
@@ -69,7 +70,7 @@ returns-then-lap-eq0 c =
     let g : Graph = graph_of a.g.now in
     let s = a.stem.now in
     let l = a.lap.now in
-    let clear : graph_verdict g ≡ Verdict.Clear = sym c.check-v.ensures
+    let clear : graph_verdict g ≡ (Ok tt) = sym c.check-v.ensures
     ∙ c.in_default.is in
     let long : (length_fits s && length_fits l) ≡ true =
     sym (ap₂ ◌&&◌ c.length_fits.ensures
@@ -83,7 +84,7 @@ decide-requires c =
     let g : Graph = graph_of a.g.now in
     let s = a.stem.now in
     let l = a.lap.now in
-    let clear : graph_verdict g ≡ Verdict.Clear = sym c.check-v.ensures
+    let clear : graph_verdict g ≡ (Ok tt) = sym c.check-v.ensures
     ∙ c.in_default.is in
     let long : (length_fits s && length_fits l) ≡ true =
     sym (ap₂ ◌&&◌ c.length_fits.ensures
@@ -98,7 +99,7 @@ returns c =
     let g : Graph = graph_of a.g.now in
     let s = a.stem.now in
     let l = a.lap.now in
-    let clear : graph_verdict g ≡ Verdict.Clear =
+    let clear : graph_verdict g ≡ (Ok tt) =
     sym c.check-v.ensures
     ∙ c.in_default.is in
     let long : (length_fits s && length_fits l) ≡ true =

@@ -3,12 +3,13 @@ use Prim.Native.Nat.{ℕ}
 use mathlib.Core.Path.{◌≡◌, sym, ◌∙◌}
 use mathlib.Core.List.{List}
 use borrow.Author.Rules.{rules}
-use Rattle.moves.specs.declared.Verdict.{Verdict}
+use Rattle.moves.specs.First.{Verdict}
 use Rattle.reading.specs.Reading.{read_verdict}
 use Rattle.reading.specs.Laws.{clear_right}
 use Rattle.sheet.specs.Laws.{read_refused, read_clear, not_refused}
 use Rattle.sheet.proofs.read.Goals as goal
 use Rattle.sheet.proofs.read.Goals.{Else-refused}
+use Rattle.std.specs.Prelude.{Ok}
 
 pub returns-then-refused : goal.returns-then-refused
 returns-then-refused c =
@@ -20,10 +21,10 @@ returns-then-refused c =
 abbrev sheet : Else-refused → List ℕ
 sheet c = c.args.s.now
 
-clear : (c : Else-refused) → c.judge-v.result ≡ Verdict.Clear
+clear : (c : Else-refused) → c.judge-v.result ≡ Ok tt
 clear c = not_refused _ (sym c.refused.ensures ∙ c.if-refused.false)
 
-sheet-clear : (c : Else-refused) → read_verdict (sheet c) ≡ Verdict.Clear
+sheet-clear : (c : Else-refused) → read_verdict (sheet c) ≡ Ok tt
 sheet-clear c = sym c.judge-v.ensures.right ∙ clear c
 
 pub fill-requires : goal.fill-requires

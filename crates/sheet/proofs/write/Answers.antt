@@ -4,7 +4,7 @@ use native.Mathlib.Omega.{arith}
 use lib.ListN.{length}
 use borrow.Author.Rules.{rules}
 use Rattle.moves.specs.declared.Marking.{Marking}
-use Rattle.moves.specs.declared.Verdict.{Verdict}
+use Rattle.moves.specs.First.{Verdict}
 use Rattle.moves.specs.First.{first}
 use Rattle.rules.specs.Graph.{Graph, graph_of}
 use Rattle.writing.specs.Writing.{sheet_bytes, content_lines}
@@ -13,6 +13,7 @@ use Rattle.writing.specs.Parts.{sheet_length}
 use Rattle.sheet.specs.Laws.{write_refused, write_short, write_done}
 use Rattle.sheet.proofs.write.Goals as goal
 use Rattle.sheet.proofs.write.Goals.{After-size-size, In_default}
+use Rattle.std.specs.Prelude.{Ok}
 
 pub returns-in-Refused : goal.returns-in-Refused
 returns-in-Refused c =
@@ -26,7 +27,7 @@ graph c = graph_of c.args.g.now
 abbrev marking : In_default → Marking
 marking c = c.args.m
 
-clear : (c : In_default) → first (content_lines (graph c) (marking c)) ≡ Verdict.Clear
+clear : (c : In_default) → first (content_lines (graph c) (marking c)) ≡ Ok tt
 clear c = sym c.content-v.ensures ∙ c.in_default.is
 
 pub turned-turned-requires : goal.turned-turned-requires

@@ -3,28 +3,28 @@ use Prim.Native.Nat.{◌≤◌}
 use mathlib.Core.Path.{◌≡◌, sym, ◌∙◌, ap}
 use mathlib.Core.Bool.{true}
 use native.Mathlib.Omega.{arith}
-use Rattle.moves.specs.declared.Asked.{Asked}
+use Rattle.moves.specs.First.{Verdict}
 use Rattle.moves.specs.declared.Marking.{Marking}
-use Rattle.moves.specs.declared.Verdict.{Verdict}
 use Rattle.moves.specs.First.{first}
 use Rattle.rules.specs.Graph.{Graph, graph_of, graph_verdict}
 use Rattle.rules.specs.Answers.{after_entry}
 use Rattle.rules.specs.Laws.{clear_counts}
 use Rattle.rules.specs.Asking.{entry_allowed}
 use Rattle.rules.specs.Entries.{Named, known_named}
-use Rattle.tracker.specs.declared.Tracked.{Tracked}
+use Rattle.tracker.specs.Tracked.{Tracked}
 use Rattle.tracker.specs.Tracker.{start_lines, is_rank, track_after}
 use Rattle.tracker.specs.Laws.{clear_graph, rank_most, entered, step_refused, step_unranked, step_entered}
 use Rattle.tracker.proofs.advance.Goals as goal
 use Rattle.tracker.proofs.advance.Goals.{After-ranked, Else-not-ranked}
+use Rattle.std.specs.Prelude.{Ok}
 
 abbrev graph : After-ranked → Graph
 graph p = graph_of p.args.g.now
 
-clear : (p : After-ranked) → first (start_lines (graph p) p.args.t.marking) ≡ Verdict.Clear
+clear : (p : After-ranked) → first (start_lines (graph p) p.args.t.marking) ≡ Ok tt
 clear p = sym p.sound-v.ensures ∙ p.in_default.is
 
-lawful : (p : After-ranked) → graph_verdict (graph p) ≡ Verdict.Clear
+lawful : (p : After-ranked) → graph_verdict (graph p) ≡ Ok tt
 lawful p = clear_graph (graph p) p.args.t.marking (clear p)
 
 rank : (p : Else-not-ranked) → is_rank (graph (goal.at.Else-not-ranked p).After-ranked).steps p.args.t.rank.0 ≡ true
@@ -64,14 +64,14 @@ unfolding entered
 returns-in-Refused-ask_entry c =
     let a = c.args in
     sym (step_entered (graph (goal.at.returns-in-Refused-ask_entry c).After-ranked) a.t a.e (clear (goal.at.returns-in-Refused-ask_entry c).After-ranked) (rank (goal.at.returns-in-Refused-ask_entry c).Else-not-ranked)
-    ∙ ap (λ (o : Asked). entered o a.t (after_entry (graph (goal.at.returns-in-Refused-ask_entry c).After-ranked) a.t.marking a.e) a.e.step.0)
+    ∙ ap (λ (o : Verdict). entered o a.t (after_entry (graph (goal.at.returns-in-Refused-ask_entry c).After-ranked) a.t.marking a.e) a.e.step.0)
     (sym c.ask_entry.ensures ∙ c.in-Refused-ask_entry.is))
 
 pub returns-in-Allowed : goal.returns-in-Allowed
 unfolding entered
 returns-in-Allowed c =
     let a = c.args in
-    ap Tracked.At (c.follow.ensures ∙ ap (λ (n : Marking). track_after a.t n a.e.step.0) c.taken.ensures)
+    ap Ok (c.follow.ensures ∙ ap (λ (n : Marking). track_after a.t n a.e.step.0) c.taken.ensures)
     ∙ sym (step_entered (graph (goal.at.returns-in-Allowed c).After-ranked) a.t a.e (clear (goal.at.returns-in-Allowed c).After-ranked) (rank (goal.at.returns-in-Allowed c).Else-not-ranked)
-    ∙ ap (λ (o : Asked). entered o a.t (after_entry (graph (goal.at.returns-in-Allowed c).After-ranked) a.t.marking a.e) a.e.step.0)
+    ∙ ap (λ (o : Verdict). entered o a.t (after_entry (graph (goal.at.returns-in-Allowed c).After-ranked) a.t.marking a.e) a.e.step.0)
     (sym c.ask_entry.ensures ∙ c.in-Allowed.is))

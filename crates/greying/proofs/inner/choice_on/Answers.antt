@@ -6,10 +6,11 @@ use borrow.Author.Tests.{lt-ltb, le-ltb}
 use Rattle.moves.specs.declared.inner.Row.{Row}
 use Rattle.rules.specs.Graph.{Graph, graph_of}
 use Rattle.rules.specs.Laws.{clear_counts}
-use Rattle.greying.specs.declared.Choice.{Choice}
+use Rattle.greying.specs.Greying.{Choice}
 use Rattle.greying.specs.Rows.{steps_for}
 use Rattle.greying.specs.Laws.{choice_outside, choice_unknown, choice_steps, steps_of_lem}
 use Rattle.greying.proofs.inner.choice_on.Goals as goal
+use Rattle.std.specs.Prelude.{Ok}
 
 pub fits-requires : goal.fits-requires
 fits-requires c = (clear_counts (graph_of c.args.g.now) c.requires).steps_most
@@ -42,5 +43,5 @@ returns c =
     let fit = sym c.fits.ensures ∙ c.if-not-fits.false in
     let known : a.person < g.people = c.if-g-person.false in
     let held = ap (λ (w : Row). steps_for g a.m w.held) c.row_at-w.ensures in
-    ap Choice.Steps (c.steps_for.ensures ∙ held ∙ steps_of_lem g a.m c.requires fit a.person known)
+    ap Ok (c.steps_for.ensures ∙ held ∙ steps_of_lem g a.m c.requires fit a.person known)
     ∙ sym (choice_steps g a.m a.person c.requires fit (lt-ltb _ _ known))

@@ -5,11 +5,12 @@ use mathlib.Core.Bool.{true, false}
 use native.Mathlib.Omega.{arith}
 use lib.ListN.{length}
 use Rattle.moves.specs.declared.Entry.{Entry}
-use Rattle.journal.specs.declared.Walked.{Walked}
+use Rattle.journal.specs.Ran.{Walked}
 use Rattle.journal.specs.Journal.{length_fits}
 use Rattle.journal.specs.Laws.{fits_threes, walk_length, walk_entry, walk_end}
 use Rattle.journal.proofs.inner.step_at.Goals as goal
 use Rattle.journal.proofs.inner.step_at.Goals.{Else-not-length_fits}
+use Rattle.std.specs.Prelude.{Ok, Some}
 
 long : (p : Else-not-length_fits) → length_fits p.args.j.now ≡ true
 long p = sym p.length_fits.ensures ∙ p.if-not-length_fits.false
@@ -26,7 +27,7 @@ returns-then-place-j c =
     let a = c.args in
     let j = a.j.now in
     let room : 3 * a.place + 3 ≤ length j = omega arith in
-    ap (λ (e : Entry). record { said = Walked.At e; place = a.place + 1 }) c.entry_at.ensures
+    ap (λ (e : Entry). record { said = Ok (Some e); place = a.place + 1 }) c.entry_at.ensures
     ∙ sym (walk_entry j a.place (long (goal.at.returns-then-place-j c).Else-not-length_fits) room)
 
 pub returns : goal.returns

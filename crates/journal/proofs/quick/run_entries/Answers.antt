@@ -9,13 +9,13 @@ use lib.ListN.{length, drop}
 use borrow.Author.Rules.{rules}
 use Rattle.moves.specs.declared.Marking.{Marking}
 use Rattle.moves.specs.declared.Entry.{Entry}
-use Rattle.moves.specs.declared.Move.{Move}
+use Rattle.moves.specs.Move.{Move}
 use Rattle.rules.specs.Graph.{Graph, graph_of}
 use Rattle.rules.specs.Answers.{entry_asked, refusal_in, entry_move}
 use Rattle.tables.specs.Laws.{Counted}
 use Rattle.rules.specs.Laws.{clear_counts}
 use Rattle.rules.specs.Entries.{Named}
-use Rattle.journal.specs.declared.Ran.{Ran}
+use Rattle.journal.specs.Ran.{Ran}
 use Rattle.journal.specs.Journal.{entries, entry_at}
 use Rattle.journal.specs.Inner.{run_on}
 use Rattle.journal.specs.Allowed.{is_allowed, allowed_named, allowed_moved}
@@ -24,6 +24,9 @@ use Rattle.journal.specs.Laws.{run_moved, run_ended}
 use Rattle.journal.proofs.Stopped.{run_stopped}
 use Rattle.journal.proofs.quick.run_entries.Goals as goal
 use Rattle.journal.proofs.quick.run_entries.Goals.{After-allowed, At-loop-k}
+use Rattle.std.specs.Prelude.{Ok, Err}
+use Rattle.journal.specs.Ran.{ended}
+use Rattle.journal.specs.Ran.{stopped}
 
 abbrev graph : At-loop-k → Graph
 graph l = graph_of l.args.g.now
@@ -55,7 +58,7 @@ returns-then-not-allowed c =
     let e = c.entry_at-e.ensures in
     let out : is_allowed g l.at (entry_at j l.k) ≡ false =
     ap (is_allowed g l.at) (sym e) ∙ sym c.allowed.ensures ∙ c.if-not-allowed.true in
-    ap (Ran.Stopped l.k l.at) (c.against.ensures ∙ ap (λ (x : Entry). refusal_in (entry_asked g l.at x)) e)
+    ap ((λ x. Err (stopped l.k l.at x))) (c.against.ensures ∙ ap (λ (x : Entry). refusal_in (entry_asked g l.at x)) e)
     ∙ sym (l.invariant.3 ∙ run_stopped g l.at j l.k (room (goal.at.returns-then-not-allowed c).After-allowed) out)
 
 pub taken-at-requires : goal.taken-at-requires
@@ -72,7 +75,7 @@ loop-k-preserved c =
     let g : Graph = graph (goal.at.loop-k-preserved c).At-loop-k in
     let j : List ℕ = journal (goal.at.loop-k-preserved c).At-loop-k in
     let ok : is_allowed g l.at _ ≡ true = sym c.allowed.ensures ∙ c.if-not-allowed.false in
-    let told : entry_move g l.at (entry_at j l.k) ≡ Move.Moved _ =
+    let told : entry_move g l.at (entry_at j l.k) ≡ Ok _ =
     ap (entry_move g l.at) (sym c.entry_at-e.ensures) ∙ allowed_moved g l.at _ ok in (
       search rules,
       search rules,
@@ -87,4 +90,4 @@ returns c =
     let j : List ℕ = journal (goal.at.returns c).At-loop-k in
     let past : length j ≤ 3 * l.k = omega arith in
     let all : l.k ≡ length j / 3 = omega arith in
-    sym (l.invariant.3 ∙ run_ended (graph (goal.at.returns c).At-loop-k) l.at j l.k past ∙ ap (Ran.Ended l.at) all)
+    sym (l.invariant.3 ∙ run_ended (graph (goal.at.returns c).At-loop-k) l.at j l.k past ∙ ap ((λ x. Ok (ended l.at x))) all)

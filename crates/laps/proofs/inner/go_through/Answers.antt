@@ -8,7 +8,7 @@ use lib.ListN.{length}
 use borrow.Author.Rules.{rules}
 use Rattle.sets.specs.Sets.{full}
 use Rattle.moves.specs.declared.Entry.{Entry}
-use Rattle.moves.specs.declared.Move.{Move}
+use Rattle.moves.specs.Move.{Move}
 use Rattle.rules.specs.Graph.{Graph, graph_of}
 use Rattle.rules.specs.Answers.{entry_asked, refusal_in, entry_move}
 use Rattle.tables.specs.Laws.{Counted}
@@ -17,10 +17,12 @@ use Rattle.rules.specs.Entries.{Named}
 use Rattle.journal.specs.Journal.{entry_at}
 use Rattle.journal.specs.Allowed.{is_allowed, allowed_named, allowed_moved}
 use Rattle.journal.specs.Singles.{singles_all}
-use Rattle.laps.specs.declared.inner.Leg.{Leg}
+use Rattle.laps.specs.Decision.{Leg}
 use Rattle.laps.specs.Decision.{still}
 use Rattle.laps.specs.Ways.{leg_moved, leg_stopped, leg_ended}
 use Rattle.laps.proofs.inner.go_through.Goals as goal
+use Rattle.std.specs.Prelude.{Ok, Err}
+use Rattle.laps.specs.Decision.{halt}
 
 pub loop-k-init : goal.loop-k-init
 loop-k-init c = (search rules, search rules, search rules, refl)
@@ -42,7 +44,7 @@ returns-then-not-allowed c =
     let out : is_allowed g l.at (entry_at j l.k) ≡ false =
     ap (is_allowed g l.at) (sym c.entry_at-e.ensures) ∙ sym c.allowed.ensures
     ∙ c.if-not-allowed.true in
-    ap (Leg.Stopped l.k) (c.against.ensures
+    ap ((λ x. Err (halt l.k x))) (c.against.ensures
     ∙ ap (λ (e : Entry). refusal_in (entry_asked g l.at e)) c.entry_at-e.ensures)
     ∙ sym (l.invariant.3 ∙ leg_stopped g l.at l.left j l.k room out)
 
@@ -73,9 +75,9 @@ loop-k-preserved c =
     let room : 3 * l.k + 3 ≤ length j = omega arith in
     let ok : is_allowed g l.at _ ≡ true = sym c.allowed.ensures
     ∙ c.if-not-allowed.false in
-    let told : entry_move g l.at (entry_at j l.k) ≡ Move.Moved c.taken-next.result =
+    let told : entry_move g l.at (entry_at j l.k) ≡ Ok c.taken-next.result =
     ap (entry_move g l.at) (sym c.entry_at-e.ensures) ∙ allowed_moved g l.at _ ok
-    ∙ ap Move.Moved (sym c.taken-next.ensures) in
+    ∙ ap Ok (sym c.taken-next.ensures) in
     let kept : c.remain-left.result ≡ still l.left l.at (entry_at j l.k).step.0 = c.remain-left.ensures
     ∙ ap (λ (e : Entry). still l.left l.at e.step.0) c.entry_at-e.ensures in
     (search rules, search rules, search rules, l.invariant.3 ∙ leg_moved g l.at l.left j l.k _ _ room told kept)

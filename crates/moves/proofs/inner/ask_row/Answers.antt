@@ -4,20 +4,19 @@ use mathlib.Core.Path.{sym, ◌∙◌, ap}
 use mathlib.Core.Bool.{not}
 use borrow.Author.Tests.{ne_eqb, eq-eqb}
 use Rattle.moves.specs.First.{first}
-use Rattle.moves.specs.Move.{asked_of}
 use Rattle.moves.proofs.inner.ask_row.Goals as goal
 
 pub returns-then-not-has : goal.returns-then-not-has
-unfolding asked_of first
+unfolding first
 returns-then-not-has c = simp (ap not (sym c.has.ensures) ∙ ap not c.if-not-has.true)
 
 pub returns-then-not-has-2 : goal.returns-then-not-has-2
-unfolding asked_of first
+unfolding first
 returns-then-not-has-2 c =
     simp (ap not (sym c.has.ensures) ∙ ap not c.if-not-has.false, ap not (sym c.has-2.ensures) ∙ ap not c.if-not-has-2.true)
 
 pub returns-then-not-has-3 : goal.returns-then-not-has-3
-unfolding asked_of first
+unfolding first
 returns-then-not-has-3 c =
     simp (
       ap not (sym c.has.ensures) ∙ ap not c.if-not-has.false,
@@ -26,7 +25,7 @@ returns-then-not-has-3 c =
     )
 
 pub returns-then-open-ne0 : goal.returns-then-open-ne0
-unfolding asked_of first
+unfolding first
 returns-then-open-ne0 c =
     simp (
       ap not (sym c.has.ensures) ∙ ap not c.if-not-has.false,
@@ -37,7 +36,7 @@ returns-then-open-ne0 c =
     )
 
 pub returns : goal.returns
-unfolding asked_of first
+unfolding first
 returns c =
     simp (
       ap not (sym c.has.ensures) ∙ ap not c.if-not-has.false,

@@ -3,10 +3,10 @@ use mathlib.Core.Path.{sym, ap, ◌∙◌}
 use Rattle.rules.specs.Answers.{refusal_in}
 use Rattle.rules.proofs.inner.against.Goals as goal
 
-pub returns-in-Allowed : goal.returns-in-Allowed
+pub returns-in-Ok : goal.returns-in-Ok
 unfolding refusal_in
-returns-in-Allowed c = ap refusal_in (sym c.in-Allowed.is ∙ c.ask_entry.ensures)
+returns-in-Ok c = ap refusal_in (sym c.in-Ok.is ∙ c.ask_entry.ensures)
 
-pub returns-in-Refused : goal.returns-in-Refused
+pub returns-in-Err : goal.returns-in-Err
 unfolding refusal_in
-returns-in-Refused c = ap refusal_in (sym c.in-Refused.is ∙ c.ask_entry.ensures)
+returns-in-Err c = ap refusal_in (sym c.in-Err.is ∙ c.ask_entry.ensures)

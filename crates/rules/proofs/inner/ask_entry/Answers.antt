@@ -6,7 +6,7 @@ use Rattle.moves.specs.declared.inner.Row.{Row}
 use Rattle.moves.specs.First.{first}
 use Rattle.rules.specs.Graph.{Graph, graph_of}
 use Rattle.rules.specs.Answers.{entry_known}
-use Rattle.moves.specs.Move.{asked_of, row_lines}
+use Rattle.moves.specs.Move.{row_lines}
 use Rattle.rules.specs.Laws.{clear_counts, entry_unknown, entry_known_lem}
 use native.Mathlib.Omega.{arith}
 use Rattle.rules.proofs.inner.ask_entry.Goals as goal
@@ -57,5 +57,5 @@ returns c =
       lt-ltb _ _ c.if-g-s.false,
       lt-ltb _ _ c.if-g-r.false,
     ) in
-    c.ask_row.ensures ∙ ap (λ (w : Row). asked_of (first (row_lines w a.m a.e))) c.row_at.ensures
+    c.ask_row.ensures ∙ ap (λ (w : Row). (first (row_lines w a.m a.e))) c.row_at.ensures
     ∙ sym (entry_known_lem g a.m a.e is)

@@ -1,0 +1,7 @@
+-- What a `?` hands on is the refusal that it met.
+use Rattle.std.specs.Prelude.{◌≡◌, Result, Err, IsErrAnd}
+use Rattle.std.proofs.Common.{ap, ◌∙◌}
+use Rattle.std.proofs.lemmas.Result.{err_from_is_err_and}
+
+pub handed : {T E : Type 0} (r : Result T E) (e : E) → IsErrAnd r (λ y. y ≡ e) → r ≡ Err e
+handed r e h = let p = err_from_is_err_and r h in p.1 ∙ ap Err p.2
