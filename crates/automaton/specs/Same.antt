@@ -21,7 +21,7 @@ use Rattle.rules.specs.Laws.{clear_counts}
 use Rattle.moves.specs.Inside.{Inside, inside_fits}
 use Rattle.rules.specs.Entries.{moved_after}
 use Rattle.tracker.specs.declared.Track.{Track}
-use Rattle.tracker.specs.Tracked.{Tracked}
+use Rattle.tracker.specs.Tracker.{Tracked}
 use Rattle.tracker.specs.Tracker.{is_rank, begin, rest, pending, above, pool, meets, served, track_after}
 use Rattle.tracker.specs.Tracker.{start_lines, the_start, the_idle, the_step}
 use Rattle.automaton.specs.Paper.{State, Initial, Tau, Transition, min, ◌∈?◌, rank_of_min, j', i'}
