@@ -16,7 +16,8 @@ use Rattle.numbers.specs.Numbers.{Spliced}
 use Rattle.numbers.specs.Laws.{spliced_then}
 use Rattle.tables.specs.Laws.{rows_at}
 use Rattle.arrows.specs.Arrows.{Arrow, arrows_in, links, link_in_order, put, put_all, place, spelt, arrows_body}
-use Rattle.sets.specs.Later.{later, later_minus}
+use Rattle.sets.specs.Later.{later}
+use Rattle.sets.specs.Members.{members_later}
 use Rattle.arrows.specs.Lists.{listed_length}
 use Rattle.arrows.specs.Places.{fit_from, fit_places, length_spelt, spelt_append}
 use Rattle.arrows.specs.Rows.{members, members_none, members_more, toward, row_arrows, kind_arrows, count_of, count_arrows, count_mono}
@@ -108,9 +109,6 @@ module _ (n : ℕ) (s table₀ : List ℕ) (next i : ℕ) (table : List ℕ) (r 
   )
 
 -- ---- writing
-
-members_later : (x : ℕ) → x < 2 ^ 64 → (x ≡ 0 → ⊥) → members x ≡ lowest 64 x ∷ members (later x)
-members_later x small some = members_more x small some ∙ ap (λ (y : ℕ). lowest 64 x ∷ members y) (sym (later_minus 64 x small some))
 
 -- the lowest step of a row, and the rest of the row
 pub row_more : (k a x : ℕ) → x < 2 ^ 64 → (x ≡ 0 → ⊥) → row_arrows k a x ≡ toward k a (lowest 64 x) ∷ row_arrows k a (later x)

@@ -2,7 +2,8 @@
 #![tactic(auto)]
 
 ghost use Rattle.std.specs.Prelude.{◌≡◌, ℕ, ◌<◌, ◌≤◌};
-ghost use Rattle.sets.specs.Sets.{has, single, union, meet, minus, subset, within, full, span, lowest};
+ghost use Rattle.sets.specs.Walk.{left};
+ghost use Rattle.sets.specs.Sets.{has, single, union, meet, minus, subset, within, full, span, lowest, members};
 
 // Is step s in x?
 pub fn has(x: u64, s: u8) -> bool
@@ -76,4 +77,37 @@ pub fn lowest(x: u64) -> u8
     ensures { result ≡ lowest 64 x }
 {
     (u64::trailing_zeros(x) % 256) as u8
+}
+
+// The steps of a set, the lowest first.
+pub fn members(x: u64) -> Walk
+    ensures { left result ≡ members x }
+{
+    Walk { rest: x }
+}
+
+// The steps that a walk has not come to.
+#[derive(Clone, Copy)]
+pub struct Walk {
+    rest: u64,
+}
+
+impl Iterator for Walk {
+    ghost use Rattle.std.specs.Iterator.{YieldsFirst, item_count};
+    ghost use Rattle.sets.specs.Walk.{left};
+
+    type Item = u8;
+
+    ghost next_gives = { YieldsFirst left };
+
+    ghost remaining = { item_count left };
+
+    fn next(&mut self) -> Option<u8> {
+        if self.rest == 0 {
+            return None;
+        }
+        let s = lowest(self.rest);
+        self.rest = self.rest & (self.rest - 1);
+        Some(s)
+    }
 }
