@@ -1,7 +1,8 @@
 -- The arrows of a sheet: three bytes each, kind, from, to, strictly ascending as triples; and the table that they fill.
 use Rattle.std.specs.Prelude.{ℕ, zero, suc, ◌+◌, ◌*◌, ◌/◌, ◌%◌, List, [], ◌∷◌, map, Bool, true, false, ◌&&◌, ◌||◌, cond, set, replicate, eqb, ltb, leb}
 use Rattle.sets.specs.Sets.{has, single, union}
-pub use Rattle.sets.specs.Sets.{kept_if, listed}
+pub use Rattle.sets.specs.Sets.{kept_if}
+unfoldable pub use Rattle.sets.specs.Sets.{listed}
 use Rattle.tables.specs.Tables.{row}
 
 pub record Arrow : Type 0 where

@@ -1,6 +1,6 @@
 -- The steps of a set in order: the lowest, and then those of the rest. What is listed depends on the numbers looked at alone, and below the
 -- lowest step there is none. Assumes nothing.
-use Rattle.std.specs.Prelude.{ℕ, zero, suc, ◌+◌, ◌-◌, ◌^◌, ◌≤◌, ◌<◌, ◌≡◌, refl, List, [], ◌∷◌, ◌++◌, Bool, true, false, not, ◌&&◌, eqb}
+use Rattle.std.specs.Prelude.{ℕ, zero, suc, ◌+◌, ◌-◌, ◌^◌, ◌≤◌, ◌<◌, ◌≡◌, refl, List, [], ◌∷◌, ◌++◌, Bool, true, false, not, ◌&&◌, length, get_or}
 use Rattle.std.proofs.Common.{sym, ap, ap₂, ◌∙◌, true≢false, suc-add, arith, eq-eqb, ne_eqb}
 use Rattle.std.proofs.Math.Decide.{dec_lt}
 use Rattle.sets.specs.Sets.{has, single, minus, lowest, kept_if, listed, members}
@@ -88,7 +88,25 @@ members_more x small some =
     below r h (yes l) = l
     below r h (no l) = absurd (true≢false (sym h ∙ has_above 64 x r small (omega arith)))
 
-
 -- what is left behind the lowest
 pub members_later : (x : ℕ) → x < 2 ^ 64 → (x ≡ 0 → ⊥) → members x ≡ lowest 64 x ∷ members (later x)
 members_later x small some = members_more x small some ∙ ap (λ (y : ℕ). lowest 64 x ∷ members y) (sym (later_minus 64 x small some))
+
+-- the first that is listed is one of the numbers looked at
+listed_head : (k s : ℕ) (f : ℕ → Bool) → 0 < length (listed k s f) → get_or (listed k s f) 0 0 < s + k
+unfolding listed
+listed_head zero s f some = absurd (let z : ⊥ = omega arith in z)
+listed_head (suc k) s f some = go (f s) (listed_head k (suc s) f) some
+  where
+    go : (b : Bool) → (0 < length (listed k (suc s) f) → get_or (listed k (suc s) f) 0 0 < suc s + k)
+        → 0 < length (kept_if b s (listed k (suc s) f))
+        → get_or (kept_if b s (listed k (suc s) f)) 0 0 < s + suc k
+    go true rest l = omega arith
+    go false rest l = let h : get_or (listed k (suc s) f) 0 0 < suc s + k = rest l in omega arith
+
+-- each step of a walk is one of 64
+pub members_below : {s : ℕ} {more : List ℕ} (x : ℕ) → members x ≡ s ∷ more → s < 64
+members_below {s} {more} x e =
+    let some : 0 < length (members x) = rw e (omega arith) in
+    let low : get_or (members x) 0 0 < 64 = listed_head 64 0 (has x) some in
+    rw e at low

@@ -1,4 +1,4 @@
-// Sets of steps, held in a `u64`: step s is bit s.
+// Sets of steps, held in a `u64`: step s is bit s. They stay words, and no type of their own: C's structs and tables hold them so.
 #![tactic(auto)]
 
 ghost use Rattle.std.specs.Prelude.{◌≡◌, ℕ, ◌<◌, ◌≤◌};
@@ -6,6 +6,7 @@ ghost use Rattle.sets.specs.Walk.{left};
 ghost use Rattle.sets.specs.Sets.{has, single, union, meet, minus, subset, within, full, span, lowest, members};
 
 // Is step s in x?
+#[tactic(auto, unfolding(crate::specs::Sets::has))]
 pub fn has(x: u64, s: u8) -> bool
     requires { s < 64 }
     ensures { result ≡ has x s }
@@ -107,7 +108,7 @@ impl Iterator for Walk {
             return None;
         }
         let s = lowest(self.rest);
-        self.rest = self.rest & (self.rest - 1);
+        self.rest &= self.rest - 1;
         Some(s)
     }
 }

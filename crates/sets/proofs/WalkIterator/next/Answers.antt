@@ -1,5 +1,5 @@
 -- `next`: the lowest step that is left comes first, and those behind it are left. Assumes nothing.
-use Rattle.std.proofs.Common.{rules, arith, ◌≡◌, ◌∙◌, ◌∷◌, ap, sym, length, List, ◌<◌, ◌^◌, ℕ, ap₂}
+use Rattle.std.proofs.Common.{rules, ◌≡◌, ◌∙◌, ◌∷◌, ap, sym, length, ◌<◌, ◌^◌, ℕ}
 use Rattle.sets.specs.Sets.{members}
 use Rattle.sets.specs.Later.{later}
 use Rattle.sets.specs.Members.{members_none, members_later}
