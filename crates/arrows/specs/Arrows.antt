@@ -1,5 +1,5 @@
 -- The arrows of a sheet: three bytes each, kind, from, to, strictly ascending as triples; and the table that they fill.
-use Rattle.std.specs.Prelude.{ℕ, zero, suc, ◌+◌, ◌*◌, ◌/◌, ◌%◌, List, [], ◌∷◌, map, Bool, true, false, ◌&&◌, ◌||◌, cond, set, replicate, eqb, ltb, leb}
+use Rattle.std.specs.Prelude.{ℕ, ◌+◌, ◌*◌, ◌/◌, ◌%◌, List, [], ◌∷◌, map, Bool, true, ◌&&◌, ◌||◌, cond, set, replicate, eqb, ltb, leb}
 use Rattle.sets.specs.Sets.{has, single, union}
 pub use Rattle.sets.specs.Sets.{kept_if}
 unfoldable pub use Rattle.sets.specs.Sets.{listed}

@@ -1,5 +1,5 @@
 -- What the loops over arrows carry: for each, what is left to do and the law for one turn more. Assumes nothing.
-use Prim.Native.Nat.{ℕ, zero, suc, ◌+◌, ◌-◌, ◌*◌, ◌^◌, ◌≤◌, ◌<◌}
+use Prim.Native.Nat.{ℕ, zero, suc, ◌+◌, ◌*◌, ◌≤◌, ◌<◌}
 use Rattle.std.specs.Prelude.{◌≡◌, refl, Bool, true, false, ◌&&◌, get_or, set, drop, leb}
 use Rattle.std.proofs.Math.Path.{sym, ap}
 use Rattle.std.proofs.Common.{◌∙◌, subst, add-one, arith, drop_of_length-le, drop-cons}
@@ -8,19 +8,16 @@ use Rattle.std.proofs.Math.Bool.{cond}
 use Rattle.std.proofs.Math.ListN.{length, length-set}
 use Rattle.std.proofs.lemmas.List.{length-map}
 use Rattle.std.proofs.Math.Seq.{sets}
-use Rattle.sets.specs.Sets.{has, single, union, lowest}
-use Rattle.sets.specs.Laws.{meet_lt}
+use Rattle.sets.specs.Sets.{has, single, union}
 use Rattle.sets.specs.Truth.{and_left, and_right}
 use Rattle.tables.specs.Tables.{row}
 use Rattle.numbers.specs.Numbers.{Spliced}
 use Rattle.numbers.specs.Laws.{spliced_then}
 use Rattle.tables.specs.Laws.{rows_at}
 use Rattle.arrows.specs.Arrows.{Arrow, arrows_in, links, link_in_order, put, put_all, place, spelt, arrows_body}
-use Rattle.sets.specs.Later.{later}
-use Rattle.sets.specs.Members.{members_later}
 use Rattle.arrows.specs.Lists.{listed_length}
 use Rattle.arrows.specs.Places.{fit_from, fit_places, length_spelt, spelt_append}
-use Rattle.arrows.specs.Rows.{members, members_none, members_more, toward, row_arrows, kind_arrows, count_of, count_arrows, count_mono}
+use Rattle.arrows.specs.Rows.{members, toward, row_arrows, kind_arrows, count_of, count_arrows, count_mono}
 use Rattle.arrows.specs.Rows.{kind_rows, Kept, turned_in, length_turned, from_rows, first_kinds, count_kinds, count_kinds_lem, by_kind}
 
 -- ---- reading

@@ -1,9 +1,9 @@
 -- The arrows of a table row by row, as the writer goes: a kind, then a step that arrows come from, then the steps of its row, the lowest
 -- first. Conditions stand with the step that waits, so their table is turned first. Assumes nothing.
 use Prim.Native.Nat.{ℕ, zero, suc, ◌+◌, ◌-◌, ◌*◌, ◌/◌, ◌%◌, ◌^◌, ◌≤◌, ◌<◌}
-use Rattle.std.specs.Prelude.{◌≡◌, refl, Bool, true, false, not, ◌&&◌, length, replicate, eqb}
+use Rattle.std.specs.Prelude.{◌≡◌, refl, Bool, true, false, length, replicate, eqb}
 use Rattle.std.proofs.Math.Path.{sym, ap, ap₂}
-use Rattle.std.proofs.Common.{◌∙◌, subst, true≢false, zero-add, zero-mul, suc-mul, not-suc-le-zero, le_of_eq, length-append, lit<, eq-eqb, ne_eqb}
+use Rattle.std.proofs.Common.{◌∙◌, subst, zero-add, zero-mul, suc-mul, not-suc-le-zero, le_of_eq, length-append, lit<}
 use mathlib.Core.List.{List, [], ◌∷◌, ◌++◌, map, append-nil}
 use Rattle.std.proofs.Math.Nat.{two-pow-succ}
 use native.Mathlib.Omega.{arith}
@@ -14,12 +14,11 @@ use Rattle.std.specs.Int.Count.{ones, ones_step}
 use Rattle.sets.specs.Sets.{has}
 pub use Rattle.sets.specs.Sets.{members}
 pub use Rattle.sets.specs.Members.{members_none, members_more}
-use Rattle.sets.specs.Laws.{Least, lowest_least, lowest_has, has_minus, has_single, has_zero, has_above, ext, has_half, has_low}
-use Rattle.sets.specs.Truth.{and_false, and_true}
+use Rattle.sets.specs.Laws.{has_zero, has_above, ext, has_half, has_low}
 use Rattle.tables.specs.Tables.{row, table_at, keeps}
 use Rattle.tables.specs.Laws.{row_at_lem, keeps_row, keeps_gone}
 use Rattle.arrows.specs.Arrows.{Arrow, put_all, held, place, arrow_at, listed, kept_if, arrows_of}
-use Rattle.arrows.specs.Lists.{member, listed_same, listed_add, listed_none, listed_first, member_listed}
+use Rattle.arrows.specs.Lists.{member, listed_add, member_listed}
 use Rattle.arrows.specs.Places.{place_arrow_at}
 use Rattle.arrows.specs.Table.{AllIn, held_filled, rows_filled, length_filled, row_other, column_other}
 

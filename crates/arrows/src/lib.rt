@@ -9,7 +9,7 @@ ghost use Rattle.arrows.specs.Arrows.{arrows_in, link_in_order, put_all, spelt, 
 ghost use Rattle.arrows.specs.Rows.{members, row_arrows, kind_arrows, count_of, turned, turned_in, from_rows, Kept};
 ghost use Rattle.arrows.specs.Loops.{filled};
 
-use crate::runs::{fits, take};
+use crate::runs::{Arrow, Stop, take};
 
 pub mod runs;
 
@@ -19,15 +19,13 @@ pub fn read(s: &[u8], n: u8, table: &mut [u64; 256]) -> bool
     ensures value { result ≡ link_in_order n (arrows_in s.now) }
     ensures table_after { table.new ≡ filled n 0 table.old (arrows_in s.now) }
 {
-    let mut next = 0;
-    let mut i = 0;
-    while i < s.len() {
-        if !fits(n, next, s[i], s[i + 1], s[i + 2]) {
+    let mut stop = Stop { at: 0, next: 0 };
+    // Each turn takes a whole run, and where that ends is found on the way: no `for` goes so.
+    while stop.at < s.len() {
+        if !Arrow::read(s, stop.at).fits(n, stop.next) {
             return false;
         }
-        let stop = take(s, i, n, table);
-        next = stop.next;
-        i = stop.at;
+        stop = take(s, stop.at, n, table);
     }
     true
 }

@@ -1,5 +1,5 @@
 -- `size`: found is what the kinds passed have, and each arrow takes three bytes. Assumes nothing.
-use Rattle.std.proofs.Common.{ℕ, ◌+◌, ◌*◌, ◌≤◌, ◌<◌, ◌≡◌, ◌∙◌, ap, ap₂, sym, arith, length, refl, List}
+use Rattle.std.proofs.Common.{ℕ, ◌+◌, ◌*◌, ◌≤◌, ◌≡◌, ◌∙◌, ap, ap₂, sym, arith, length, refl, List}
 use Rattle.tables.specs.Tables.{row}
 use Rattle.arrows.specs.Rows.{from_rows, count_of, count_kinds}
 use Rattle.arrows.specs.Loops.{kinds_count, kinds_most, length_from, length_body}

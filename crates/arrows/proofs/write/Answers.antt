@@ -4,8 +4,7 @@ use Rattle.std.proofs.Common.{ℕ, ◌≤◌, ◌≡◌, refl, ap, ◌∙◌, su
 use Rattle.tables.specs.Tables.{row}
 use Rattle.numbers.specs.Numbers.{Spliced}
 use Rattle.numbers.specs.Laws.{spliced_length}
-use Rattle.arrows.specs.Arrows.{spelt}
-use Rattle.arrows.specs.Rows.{first_kinds, count_of}
+use Rattle.arrows.specs.Rows.{count_of}
 use Rattle.arrows.specs.Loops.{kinds_room, kinds_none, kinds_more, length_from, body_kinds}
 use Rattle.arrows.proofs.write.Goals as goal
 
