@@ -1,7 +1,7 @@
 -- Writing what was read gives the bytes, if it had six bodies, so that a job with its first marking has one sheet of six. A sheet whose
 -- contents fit is laid out from its bodies; each body is what is written of what it says; and nothing is against what was read of a sheet
 -- that nothing is against, of either form. Assumes that a sheet is made of bytes.
-use Rattle.std.specs.Prelude.{ℕ, ◌*◌, ◌%◌, ◌≤◌, ◌<◌, ◌≡◌, refl, ◌↔◌, Bool, false, ◌&&◌, get_or, drop}
+use Rattle.std.specs.Prelude.{ℕ, ◌*◌, ◌%◌, ◌≤◌, ◌<◌, ◌≡◌, refl, ◌↔◌, Bool, false, ◌&&◌, get_or, drop, Ok}
 use Rattle.std.proofs.Common.{sym, ap₂, ◌∙◌, arith}
 use Rattle.std.proofs.Math.Path.{ap, subst}
 use mathlib.Core.List.{List, [], ◌∷◌, ◌++◌}
@@ -42,7 +42,6 @@ use Rattle.rounds.specs.Bodies.{counts_written, rows_written, roles_kept}
 use Rattle.rounds.specs.Bodies.{labels_rows, labels_kept, labels_own}
 use Rattle.rounds.specs.Arrows.{filled_kept}
 use Rattle.rounds.specs.Read.{read_written}
-use Rattle.std.specs.Prelude.{Ok}
 
 -- what is written has six bodies
 pub sheet_six : (g : Graph) (m : Marking) → is_six (sheet_bytes g m) ≡ true
