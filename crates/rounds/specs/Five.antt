@@ -2,7 +2,6 @@
 -- written with six, and what was written is read back; and its graph has every step for its own action. Assumes nothing.
 use Rattle.std.specs.Prelude.{ℕ, ◌<◌, ◌≡◌, List, Bool, false, cond, Ok}
 use Rattle.std.proofs.Common.{ap, ◌∙◌, arith, lt-ltb}
-use Rattle.moves.specs.First.{Verdict}
 use Rattle.tables.specs.Tables.{row}
 use Rattle.rules.specs.Graph.{action_of}
 use Rattle.bodies.specs.Tables.{row_tabled}

@@ -7,7 +7,6 @@ use Rattle.sets.specs.Sets.{has, full, meet, empty, every}
 use Rattle.sets.specs.Truth.{and_intro}
 use Rattle.sets.specs.Laws.{has_meet, empty_members, every_at}
 use Rattle.moves.specs.declared.Marking.{Marking}
-use Rattle.moves.specs.First.{Verdict}
 use Rattle.moves.specs.First.{first}
 use Rattle.moves.specs.Move.{no_marking}
 use Rattle.tables.specs.Tables.{row, keeps, labels_fit}

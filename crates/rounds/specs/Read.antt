@@ -6,7 +6,6 @@ use Rattle.std.proofs.Common.{sym, ap, ap₂, ◌∙◌, subst, lt_of_lt_of_le, 
 use Rattle.std.proofs.lemmas.Bool.{not-false}
 use Rattle.sets.specs.Truth.{and_left, and_intro}
 use Rattle.moves.specs.declared.Marking.{Marking}
-use Rattle.moves.specs.First.{Verdict}
 use Rattle.moves.specs.First.{first}
 use Rattle.moves.specs.Given.{clear_head}
 use Rattle.moves.specs.Inside.{Inside, fits_inside}

@@ -1,7 +1,6 @@
 -- What a sheet says: the block and the first marking that reading it hands out.
 use Rattle.std.specs.Prelude.{ℕ, ◌≡◌, List, Ok}
 use Rattle.moves.specs.declared.Marking.{Marking}
-use Rattle.moves.specs.First.{Verdict}
 use Rattle.reading.specs.Reading.{first_of, read_verdict, block_read}
 
 -- nothing is against the sheet s, and it is read as this job and this first marking

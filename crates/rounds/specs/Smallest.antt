@@ -3,7 +3,6 @@
 use Rattle.std.specs.Prelude.{ℕ, ◌≡◌, refl, List, [], ◌∷◌, ◌++◌, length, replicate, Ok}
 use Rattle.sets.specs.Sets.{has, every}
 use Rattle.moves.specs.declared.Marking.{Marking}
-use Rattle.moves.specs.First.{Verdict}
 use Rattle.moves.specs.First.{first}
 use Rattle.tables.specs.Tables.{keeps, labels_fit}
 use Rattle.rules.specs.Graph.{graph_of, sets_fit}

@@ -10,7 +10,6 @@ use Rattle.std.proofs.Math.ListN.{length}
 use borrow.Author.Tests.{not-false}
 use Rattle.sets.specs.Truth.{and_left, and_right, and_intro}
 use Rattle.moves.specs.declared.Marking.{Marking}
-use Rattle.moves.specs.First.{Verdict}
 use Rattle.moves.specs.First.{first}
 use Rattle.moves.specs.Given.{clear_head, clear_tail}
 use Rattle.moves.specs.Move.{marking_fits}
@@ -33,7 +32,6 @@ use Rattle.reading.specs.Laws.{Right, Placed, clear_right, part_length, body_len
 use Rattle.reading.specs.Laws.{form_six, form_five, labels_six, labels_five, own_six, own_five}
 use Rattle.reading.specs.Laws.{read_arrows, read_kind, read_allows, read_holds, read_labels}
 use Rattle.writing.specs.Writing.{arrow_table, bodies_of, sheet_bytes, content_lines}
-use Rattle.sheet.specs.Sheet.{Written}
 use Rattle.sheet.specs.Sheet.{the_written, room_after}
 use Rattle.sheet.specs.Laws.{clear_after}
 use Rattle.rounds.specs.Says.{Says}
