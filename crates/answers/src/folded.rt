@@ -81,6 +81,7 @@ fn lay(r: Record, words: &mut [u64; 9])
     ];
 }
 
+#[tactic(auto, unfolding(records::specs::Answers::number_of_recorded, crate::specs::Folded::words_out))]
 pub fn spread(o: Result<Record, Refusal>, words: &mut [u64; 9]) -> u64
     ensures value { result ≡ number_of_recorded o }
     ensures words_after { words.new ≡ words_out o words.old }
