@@ -48,11 +48,11 @@ differ z = absurd (let w : ⊥ = omega arith in w)
 module _ (g : Graph) (m : Marking) where
   -- ---- what the search comes to
 
-  pub data Outcome (c : ℕ) (a : Result Ends Refusal) : Type 0 where
-    never : (n : ℕ) → a ≡ Ok (Ends.None n) → length (found g m n) ≡ n → n ≤ c → Unfinished g m n → Outcome c a
-    reach : (n : ℕ) → a ≡ Ok (Ends.Reachable (depth g m n) (n + 1)) → n < length (found g m n) → length (found g m n) ≤ c → Unfinished g m n
+  pub data Outcome (c : ℕ) (a : Ends) : Type 0 where
+    never : (n : ℕ) → a ≡ Ends.None n → length (found g m n) ≡ n → n ≤ c → Unfinished g m n → Outcome c a
+    reach : (n : ℕ) → a ≡ Ends.Reachable (depth g m n) (n + 1) → n < length (found g m n) → length (found g m n) ≤ c → Unfinished g m n
         → is_finished (at g m n) ≡ true → Outcome c a
-    full : (n : ℕ) → a ≡ Ok (Ends.Undecided (n + 1)) → n < length (found g m n) → length (found g m n) ≤ c → Unfinished g m (suc n)
+    full : (n : ℕ) → a ≡ Ends.Undecided (n + 1) → n < length (found g m n) → length (found g m n) ≤ c → Unfinished g m (suc n)
         → c < length (found g m (suc n)) → Outcome c a
 
   unfinished_more : (i : ℕ) → Unfinished g m i → is_finished (at g m i) ≡ false → Unfinished g m (suc i)
@@ -73,7 +73,7 @@ module _ (g : Graph) (m : Marking) where
       More = suc i ≤ length (found g m (suc i)) → length (found g m (suc i)) ≤ c → Unfinished g m (suc i) → Outcome c (search_from k c g m (suc i))
 
       three : (b : Bool) → ltb c (length (found g m (suc i))) ≡ b → i < length (found g m i) → is_finished (at g m i) ≡ false → More
-          → Outcome c (cond b (Ok (Ends.Undecided (i + 1))) (search_from k c g m (suc i)))
+          → Outcome c (cond b (Ends.Undecided (i + 1)) (search_from k c g m (suc i)))
       three true q l2 f rest = full i refl l2 h (unfinished_more i u f) (ltb-true c (length (found g m (suc i))) q)
       three false q l2 f rest =
           let a : length (found g m i) ≤ length (found g m (suc i)) = found_length g m i (suc i) (omega arith) in
@@ -81,14 +81,14 @@ module _ (g : Graph) (m : Marking) where
           (unfinished_more i u f)
 
       two : (b : Bool) → is_finished (at g m i) ≡ b → i < length (found g m i) → More
-          → Outcome c (cond b (Ok (Ends.Reachable (depth g m i) (i + 1)))
-          (cond (ltb c (length (found g m (suc i)))) (Ok (Ends.Undecided (i + 1))) (search_from k c g m (suc i))))
+          → Outcome c (cond b (Ends.Reachable (depth g m i) (i + 1))
+          (cond (ltb c (length (found g m (suc i)))) (Ends.Undecided (i + 1)) (search_from k c g m (suc i))))
       two true q l2 rest = reach i refl l2 h u q
       two false q l2 rest = three (ltb c (length (found g m (suc i)))) refl l2 q rest
 
       one : (b : Bool) → leb (length (found g m i)) i ≡ b → More
-          → Outcome c (cond b (Ok (Ends.None i)) (cond (is_finished (at g m i)) (Ok (Ends.Reachable (depth g m i) (i + 1)))
-          (cond (ltb c (length (found g m (suc i)))) (Ok (Ends.Undecided (i + 1))) (search_from k c g m (suc i)))))
+          → Outcome c (cond b (Ends.None i) (cond (is_finished (at g m i)) (Ends.Reachable (depth g m i) (i + 1))
+          (cond (ltb c (length (found g m (suc i)))) (Ends.Undecided (i + 1)) (search_from k c g m (suc i)))))
       one true q rest =
           let a : length (found g m i) ≤ i = leb-true (length (found g m i)) i q in
           never i refl (let z : length (found g m i) ≡ i = omega arith in z) (let z : i ≤ c = omega arith in z) u

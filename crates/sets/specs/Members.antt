@@ -1,10 +1,10 @@
 -- The steps of a set in order: the lowest, and then those of the rest. What is listed depends on the numbers looked at alone, and below the
 -- lowest step there is none. Assumes nothing.
-use Rattle.std.specs.Prelude.{ℕ, zero, suc, ◌+◌, ◌-◌, ◌^◌, ◌≤◌, ◌<◌, ◌≡◌, refl, List, [], ◌∷◌, ◌++◌, Bool, true, false, not, ◌&&◌, length, get_or}
+use Rattle.std.specs.Prelude.{ℕ, zero, suc, ◌+◌, ◌-◌, ◌^◌, ◌≤◌, ◌<◌, ◌≡◌, refl, List, [], ◌∷◌, ◌++◌, Bool, true, false, not, ◌&&◌, length, get_or, drop}
 use Rattle.std.proofs.Common.{sym, ap, ap₂, ◌∙◌, true≢false, suc-add, arith, eq-eqb, ne_eqb}
 use Rattle.std.proofs.Math.Decide.{dec_lt}
 use Rattle.sets.specs.Sets.{has, single, minus, lowest, kept_if, listed, members}
-use Rattle.sets.specs.Laws.{Least, lowest_least, lowest_has, has_minus, has_single, has_zero, has_above}
+use Rattle.sets.specs.Laws.{Least, lowest_least, lowest_has, has_minus, has_single, has_zero, has_above, ext, meet_lt}
 use Rattle.sets.specs.Truth.{and_false, and_true}
 use Rattle.sets.specs.Later.{later, later_minus}
 
@@ -93,20 +93,75 @@ pub members_later : (x : ℕ) → x < 2 ^ 64 → (x ≡ 0 → ⊥) → members x
 members_later x small some = members_more x small some ∙ ap (λ (y : ℕ). lowest 64 x ∷ members y) (sym (later_minus 64 x small some))
 
 -- the first that is listed is one of the numbers looked at
-listed_head : (k s : ℕ) (f : ℕ → Bool) → 0 < length (listed k s f) → get_or (listed k s f) 0 0 < s + k
+listed_head : (k s : ℕ) (f : ℕ → Bool) → 0 < length (listed k s f) → (s ≤ get_or (listed k s f) 0 0) × (get_or (listed k s f) 0 0 < s + k)
 unfolding listed
 listed_head zero s f some = absurd (let z : ⊥ = omega arith in z)
 listed_head (suc k) s f some = go (f s) (listed_head k (suc s) f) some
   where
-    go : (b : Bool) → (0 < length (listed k (suc s) f) → get_or (listed k (suc s) f) 0 0 < suc s + k)
+    go : (b : Bool)
+        → (0 < length (listed k (suc s) f) → (suc s ≤ get_or (listed k (suc s) f) 0 0) × (get_or (listed k (suc s) f) 0 0 < suc s + k))
         → 0 < length (kept_if b s (listed k (suc s) f))
-        → get_or (kept_if b s (listed k (suc s) f)) 0 0 < s + suc k
-    go true rest l = omega arith
-    go false rest l = let h : get_or (listed k (suc s) f) 0 0 < suc s + k = rest l in omega arith
+        → (s ≤ get_or (kept_if b s (listed k (suc s) f)) 0 0) × (get_or (kept_if b s (listed k (suc s) f)) 0 0 < s + suc k)
+    go true rest l = (omega arith, omega arith)
+    go false rest l = let h = rest l in (omega arith, omega arith)
 
--- each step of a walk is one of 64
+-- what is listed tells what holds
+listed_inj : (k s : ℕ) (f g : ℕ → Bool) → listed k s f ≡ listed k s g → (p : ℕ) → s ≤ p → p < s + k → f p ≡ g p
+unfolding listed
+listed_inj zero s f g e p h l = absurd (let z : ⊥ = omega arith in z)
+listed_inj (suc k) s f g e p h l = go (f s) (g s) refl refl (listed_inj k (suc s) f g) e (dec_lt s p)
+  where
+    apart : (f g : ℕ → Bool) → s ∷ listed k (suc s) f ≡ listed k (suc s) g → f p ≡ g p
+    apart f g e =
+        let some : 0 < length (listed k (suc s) g) = rw (← e) (omega arith) in
+        let low = (listed_head k (suc s) g some).0 in
+        let first : s ≡ get_or (listed k (suc s) g) 0 0 = ap (λ (l : List ℕ). get_or l 0 0) e in
+        absurd (let z : ⊥ = omega arith in z)
+
+    here : (b : Bool) → f s ≡ b → g s ≡ b → (s < p → ⊥) → f p ≡ g p
+    here b u v m = let q : p ≡ s = omega arith in ap f q ∙ u ∙ sym v ∙ ap g (sym q)
+
+    go : (a b : Bool) → f s ≡ a → g s ≡ b
+        → (listed k (suc s) f ≡ listed k (suc s) g → (q : ℕ) → suc s ≤ q → q < suc s + k → f q ≡ g q)
+        → kept_if a s (listed k (suc s) f) ≡ kept_if b s (listed k (suc s) g)
+        → Dec (s < p)
+        → f p ≡ g p
+    go true true u v rest e (yes m) = rest (ap (drop 1) e) p m (omega arith)
+    go true true u v rest e (no m) = here true u v m
+    go false false u v rest e (yes m) = rest e p m (omega arith)
+    go false false u v rest e (no m) = here false u v m
+    go true false u v rest e d = apart f g e
+    go false true u v rest e d = sym (apart g f (sym e))
+
+-- sets with the same steps are the same
+pub members_inj : (x y : ℕ) → x < 2 ^ 64 → y < 2 ^ 64 → members x ≡ members y → x ≡ y
+members_inj x y h l e = ext x y (λ s. go s (dec_lt s 64))
+  where
+    go : (s : ℕ) → Dec (s < 64) → has x s ≡ has y s
+    go s (yes low) = listed_inj 64 0 (has x) (has y) e s (omega arith) low
+    go s (no high) = has_above 64 x s h (omega arith) ∙ sym (has_above 64 y s l (omega arith))
+
+-- ---- one turn of a walk, from the list of what is left
+
+-- each step is one of 64
 pub members_below : {s : ℕ} {more : List ℕ} (x : ℕ) → members x ≡ s ∷ more → s < 64
 members_below {s} {more} x e =
     let some : 0 < length (members x) = rw e (omega arith) in
-    let low : get_or (members x) 0 0 < 64 = listed_head 64 0 (has x) some in
+    let low : get_or (members x) 0 0 < 64 = (listed_head 64 0 (has x) some).1 in
     rw e at low
+
+-- where a step is given, the set has steps
+pub members_some : {s : ℕ} {more : List ℕ} (x : ℕ) → members x ≡ s ∷ more → x ≡ 0 → ⊥
+members_some x e none = let n = ap length (sym e ∙ ap members none ∙ members_none) in let z : ⊥ = omega arith in z
+
+-- the step is the lowest, and the others are left
+pub members_turn : {s : ℕ} (x y : ℕ) → x < 2 ^ 64 → y < 2 ^ 64 → members x ≡ s ∷ members y → (s ≡ lowest 64 x) × (y ≡ later x)
+members_turn x y h l e =
+    let both = sym e ∙ members_later x h (members_some x e) in (
+      ap (λ (l : List ℕ). get_or l 0 0) both,
+      members_inj y (later x) l (meet_lt 64 x (x - 1) h) (ap (drop 1) both),
+    )
+
+-- nothing is left of the set with no step alone
+pub members_end : (x : ℕ) → x < 2 ^ 64 → members x ≡ [] → x ≡ 0
+members_end x h e = members_inj x 0 h (omega arith) (e ∙ sym members_none)
