@@ -7,6 +7,3 @@ abbrev pub invariant-loop-i : goal.invariant-loop-i
 invariant-loop-i l =
     (l.i ≤ length l.sizes) × (l.offset ≤ 1 + 5 * length l.sizes + 65536 * l.i)
     × Storing l.sizes l.at l.initial.room l.room l.to l.offset l.i
-
-abbrev pub decreases-loop-i : goal.decreases-loop-i
-decreases-loop-i l = length l.sizes - l.i
