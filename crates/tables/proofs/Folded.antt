@@ -1,13 +1,12 @@
 -- A fold that unites what each row gives is what the rows gather, row by row. Assumes nothing.
-use Rattle.std.specs.Prelude.{◌≡◌, ℕ, zero, suc, ◌+◌, ◌-◌, ◌≤◌, cond, Bool, List, length, take, drop, refl}
+use Rattle.std.specs.Prelude.{◌≡◌, ℕ, zero, suc, ◌+◌, ◌≤◌, cond, Bool, List, length, take, refl}
 use Rattle.std.specs.List.{fold}
-use Rattle.std.proofs.Common.{sym, ap, ap₂, ◌∙◌, le_refl, add-zero, add-one, arith, length-drop, get_or-drop, take_all, le-ltb}
+use Rattle.std.proofs.Common.{sym, ap, ap₂, ◌∙◌, le_refl, add-one, arith, take_all, le-ltb}
 use Rattle.std.proofs.lemmas.List.Sums.{fold_more}
 use Rattle.sets.specs.Sets.{gather, union}
 use Rattle.sets.specs.Laws.{gather_more}
 use Rattle.tables.specs.Tables.{row}
 use Rattle.tables.specs.Gathered.{beyond}
-use Rattle.tables.specs.Laws.{gather_front}
 
 -- the first k rows
 front : (g : ℕ → ℕ) (k : ℕ) (xs : List ℕ) → k ≤ length xs
@@ -35,20 +34,3 @@ unfolding gather
 gather_all zero rows = refl
 gather_all (suc k) rows =
     ap₂ union (gather_all k rows) (ap (λ (b : Bool). cond b 0 (rows k)) (le-ltb k 0 (omega arith)))
-
--- the rows from some row on are a table of their own
-behind : (n count : ℕ) (rows part : ℕ → ℕ) → ((i : ℕ) → part i ≡ rows (count + i)) → gather n part ≡ gather (count + n) (beyond count rows)
-unfolding gather
-behind zero count rows part e =
-    sym (gather_front count count rows (le_refl count)) ∙ ap (λ (k : ℕ). gather k (beyond count rows)) (sym (add-zero count))
-behind (suc n) count rows part e =
-    ap₂ union (behind n count rows part e) (e n) ∙ gather_next count (count + n) rows (omega arith)
-    ∙ ap (λ (k : ℕ). gather k (beyond count rows)) (let z : count + n + 1 ≡ count + suc n = omega arith in z)
-
-pub gather_part : (count : ℕ) (xs : List ℕ) → count ≤ length xs
-    → let rest = take (length xs - count) (drop count xs) in gather (length rest) (row rest) ≡ gather (length xs) (beyond count (row xs))
-gather_part count xs h =
-    let l : length (drop count xs) ≡ length xs - count = length-drop count xs in
-    ap (λ (rest : List ℕ). gather (length rest) (row rest)) (take_all (length xs - count) (drop count xs) (omega arith))
-    ∙ behind (length (drop count xs)) count (row xs) (row (drop count xs)) (λ i. get_or-drop count xs i 0)
-    ∙ ap (λ (k : ℕ). gather k (beyond count (row xs))) (let z : count + length (drop count xs) ≡ length xs = omega arith in z)
