@@ -10,7 +10,6 @@ ghost use Rattle.reading.specs.Reading.{layout_fits, labels_match, bodies_match,
 ghost use Rattle.reading.specs.Laws.{Placed, Opened, Matched};
 ghost use Rattle.reading.specs.Judged.{Judged};
 
-use bodies::Counts;
 use moves::{Marking, Refusal};
 use rules::CONDITIONS;
 

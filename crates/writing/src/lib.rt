@@ -10,7 +10,6 @@ ghost use Rattle.writing.specs.Writing.{content_lines, sheet_bytes};
 ghost use Rattle.writing.specs.Laws.{turned_of};
 ghost use Rattle.writing.specs.Parts.{sizes_of, tables_out, bodies_out, length_out};
 
-use bodies::Counts;
 use moves::{Marking, Refusal};
 use rules::{ALLOWS, CONDITIONS, HOLDS, Job, LABELS, RESPONSES, WORDS};
 
