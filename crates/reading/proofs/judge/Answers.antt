@@ -57,8 +57,8 @@ opened c =
     }
 
 -- ---- 3. Bodies 3, 4 and 6
-pub bodies_match-requires : goal.bodies_match-requires
-bodies_match-requires c = opened c
+pub invariant_of-sheet : goal.invariant_of-sheet
+invariant_of-sheet c = record { opened = opened c }
 
 pub returns-then-not-bodies_match : goal.returns-then-not-bodies_match
 returns-then-not-bodies_match c =
@@ -75,7 +75,9 @@ left3 c = left2 (goal.at.Else-not-bodies_match c).Else-not-counts_fit ∙ passed
 
 -- ---- 4. The first marking, the role sets and the actions
 pub sets_inside-requires : goal.sets_inside-requires
-sets_inside-requires c = (opened (goal.at.sets_inside-requires c).Else-not-counts_fit, bodies_matched (sheet3 c) (match3 c))
+sets_inside-requires c =
+    let k = (goal.at.sets_inside-requires c).Else-not-bodies_match in
+    bodies_matched (sheet3 k) (match3 k)
 
 pub returns-then-not-sets_inside : goal.returns-then-not-sets_inside
 returns-then-not-sets_inside c =
@@ -87,14 +89,7 @@ sheet4 c = sheet3 (goal.at.Else-not-sets_inside c).Else-not-bodies_match
 left4 : (c : Else-not-sets_inside) → read_verdict (sheet4 c) ≡ first (tail (tail (tail (tail (read_lines (sheet4 c))))))
 left4 c = left3 (goal.at.Else-not-sets_inside c).Else-not-bodies_match ∙ passed Beyond _ _ (sym c.sets_inside.ensures ∙ c.if-not-sets_inside.false)
 
-opened4 : (c : Else-not-sets_inside) → Opened (sheet4 c) c.counts-c.result
-opened4 c = opened (goal.at.Else-not-sets_inside c).Else-not-counts_fit
-
 -- ---- 5. The arrows
-pub arrows_right-requires : goal.arrows_right-requires
-arrows_right-requires c =
-    (opened4 (goal.at.arrows_right-requires c).Else-not-sets_inside, c.requires)
-
 pub returns-then-not-arrows_right : goal.returns-then-not-arrows_right
 returns-then-not-arrows_right c =
     refused _ _ Arrows (left4 (goal.at.returns-then-not-arrows_right c).Else-not-sets_inside
@@ -109,8 +104,7 @@ left5 c =
 
 -- ---- 6. Includes and excludes
 pub kinds_right-requires : goal.kinds_right-requires
-kinds_right-requires c =
-    (opened4 (goal.at.kinds_right-requires c).Else-not-sets_inside, c.arrows_right.ensures.table_after c.if-not-arrows_right.false)
+kinds_right-requires c = c.arrows_right.ensures.table_after c.if-not-arrows_right.false
 
 pub returns-then-not-kinds_right : goal.returns-then-not-kinds_right
 returns-then-not-kinds_right c =
