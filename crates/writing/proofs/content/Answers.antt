@@ -32,9 +32,11 @@ fits-requires c = (counted c).steps_most
 
 pub returns-then-not-fits : goal.returns-then-not-fits
 returns-then-not-fits c =
-    sym (content_beyond (graph (goal.at.returns-then-not-fits c).Else-not-counts_fit) (marking (goal.at.returns-then-not-fits c).Else-not-counts_fit) (counts_right_lem (goal.at.returns-then-not-fits c).Else-not-counts_fit) (sym c.fits.ensures ∙ c.if-not-fits.true))
+    let k = (goal.at.returns-then-not-fits c).Else-not-counts_fit in
+    sym (content_beyond (graph k) (marking k) (counts_right_lem k) (sym c.fits.ensures ∙ c.if-not-fits.true))
 
 pub returns : goal.returns
 returns c =
+    let k = (goal.at.returns c).Else-not-counts_fit in
     let fit = sym c.fits.ensures ∙ c.if-not-fits.false in
-    c.check.ensures ∙ sym (content_graph (graph (goal.at.returns c).Else-not-counts_fit) (marking (goal.at.returns c).Else-not-counts_fit) fit)
+    c.check.ensures ∙ sym (content_graph (graph k) (marking k) fit)
