@@ -9,7 +9,6 @@ use Rattle.std.proofs.Math.Decide.{dec_lt}
 use Rattle.sets.specs.Sets.{has}
 use Rattle.moves.specs.declared.Marking.{Marking}
 use Rattle.moves.specs.declared.Entry.{Entry}
-use Rattle.moves.specs.Move.{Move}
 use Rattle.moves.specs.Move.{after, is_finished}
 use Rattle.rules.specs.Answers.{the_move, row_of}
 use Rattle.rules.specs.Paper.{Ready, Allowed}

@@ -23,7 +23,6 @@ use Rattle.bodies.specs.Tables.{tabled, length_tabled, row_tabled}
 use Rattle.writing.specs.Writing.{arrow_table, sheet_bytes}
 use Rattle.writing.specs.Laws.{kind_lies, table_kept, content_graph}
 use Rattle.writing.specs.Parts.{sheet_length}
-use Rattle.sheet.specs.Sheet.{Written}
 use Rattle.sheet.specs.Sheet.{answer_of}
 use Rattle.rounds.specs.Says.{Says}
 use Rattle.rounds.specs.Read.{read_written}

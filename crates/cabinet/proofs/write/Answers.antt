@@ -18,7 +18,9 @@ fits : (c : Else-not-arms_fit) → arms_fit c.args.arms ≡ true
 fits c = sym c.arms_fit.ensures ∙ c.if-not-arms_fit.false
 
 pub fill-requires : goal.fill-requires
-fill-requires c = (arms_low _ (fits (goal.at.fill-requires c).Else-not-arms_fit), arms_high _ (fits (goal.at.fill-requires c).Else-not-arms_fit), search rules)
+fill-requires c =
+    let k = (goal.at.fill-requires c).Else-not-arms_fit in
+    (arms_low _ (fits k), arms_high _ (fits k), search rules)
 
 pub at_first-requires : goal.at_first-requires
 at_first-requires c = arms_high _ (fits (goal.at.at_first-requires c).Else-not-arms_fit)

@@ -26,22 +26,26 @@ tables c = tables_out (graph c)
 
 pub write_counts-x-requires : goal.write_counts-x-requires
 write_counts-x-requires c =
-    let g = graph (goal.at.write_counts-x-requires c).Start in
-    let four : length (counts (goal.at.write_counts-x-requires c).Start) ≡ 4 = length_counts g.steps g.people g.roles g.actions in
-    omega (arith, room_first (counts (goal.at.write_counts-x-requires c).Start) (marking (goal.at.write_counts-x-requires c).Start ++ tables (goal.at.write_counts-x-requires c).Start) _ _ c.requires.m_in_bounds)
+    let k = (goal.at.write_counts-x-requires c).Start in
+    let g = graph k in
+    let four : length (counts k) ≡ 4 = length_counts g.steps g.people g.roles g.actions in
+    omega (arith, room_first (counts k) (marking k ++ tables k) _ _ c.requires.m_in_bounds)
 
 pub write_marking-y-requires : goal.write_marking-y-requires
 write_marking-y-requires c =
-    let long : length (marking (goal.at.write_marking-y-requires c).Start) ≡ 24 = length_marking c.args.m in
-    let left = room_then (counts (goal.at.write_marking-y-requires c).Start) (marking (goal.at.write_marking-y-requires c).Start ++ tables (goal.at.write_marking-y-requires c).Start) _ _ _ _ c.write_counts-x.ensures c.requires.m_in_bounds in
-    omega (arith, room_first (marking (goal.at.write_marking-y-requires c).Start) (tables (goal.at.write_marking-y-requires c).Start) _ _ left)
+    let k = (goal.at.write_marking-y-requires c).Start in
+    let long : length (marking k) ≡ 24 = length_marking c.args.m in
+    let left = room_then (counts k) (marking k ++ tables k) _ _ _ _ c.write_counts-x.ensures c.requires.m_in_bounds in
+    omega (arith, room_first (marking k) (tables k) _ _ left)
 
 pub write_tables-requires : goal.write_tables-requires
 write_tables-requires c =
-    let left = room_then (counts (goal.at.write_tables-requires c).Start) (marking (goal.at.write_tables-requires c).Start ++ tables (goal.at.write_tables-requires c).Start) _ _ _ _ c.write_counts-x.ensures c.requires.m_in_bounds in
-    record { g_value = c.requires.g_value; g_in_bounds = room_then (marking (goal.at.write_tables-requires c).Start) (tables (goal.at.write_tables-requires c).Start) _ _ _ _ c.write_marking-y.ensures left }
+    let k = (goal.at.write_tables-requires c).Start in
+    let left = room_then (counts k) (marking k ++ tables k) _ _ _ _ c.write_counts-x.ensures c.requires.m_in_bounds in
+    record { g_value = c.requires.g_value; g_in_bounds = room_then (marking k) (tables k) _ _ _ _ c.write_marking-y.ensures left }
 
 pub returns : goal.returns
 returns c =
-    spliced_then (counts (goal.at.returns c).Start) (marking (goal.at.returns c).Start ++ tables (goal.at.returns c).Start) _ _ _ _ _ _ c.write_counts-x.ensures
-    (spliced_then (marking (goal.at.returns c).Start) (tables (goal.at.returns c).Start) _ _ _ _ _ _ c.write_marking-y.ensures c.write_tables.ensures)
+    let k = (goal.at.returns c).Start in
+    spliced_then (counts k) (marking k ++ tables k) _ _ _ _ _ _ c.write_counts-x.ensures
+    (spliced_then (marking k) (tables k) _ _ _ _ _ _ c.write_marking-y.ensures c.write_tables.ensures)

@@ -1,4 +1,4 @@
--- `bodies_match`: the code is the definition, with the counts at hand for those of the sheet. Assumes nothing.
+-- `Sheet::bodies_match`: the code is the definition, with the counts at hand for those of the sheet. Assumes nothing.
 use Prim.Native.Nat.{◌*◌, ◌≤◌}
 use mathlib.Core.Path.{ap}
 use mathlib.Core.Bool.{◌&&◌}
@@ -6,14 +6,14 @@ use native.Mathlib.Omega.{arith}
 use lib.Dec.{eqb}
 use lib.ListN.{length}
 use Rattle.layout.specs.Layout.{size_at}
-use Rattle.bodies.specs.declared.Counts.{Counts}
+use Rattle.tables.specs.declared.Counts.{Counts}
 use Rattle.reading.specs.Reading.{labels_match}
 use Rattle.reading.specs.Laws.{placed_long}
-use Rattle.reading.proofs.bodies_match.Goals as goal
-use Rattle.reading.proofs.bodies_match.Goals.{Start}
+use Rattle.reading.proofs.opened.Sheet.bodies_match.Goals as goal
+use Rattle.reading.proofs.opened.Sheet.bodies_match.Goals.{Start}
 
-long : (c : Start) → 29 ≤ length c.args.s.now
-long c = placed_long c.args.s.now c.requires.placed
+long : (c : Start) → 29 ≤ length c.args.self.now.bytes.now
+long c = placed_long c.args.self.now.bytes.now c.args.self.now.opened.placed
 
 pub size-requires : goal.size-requires
 size-requires c = omega (arith, long (goal.at.size-requires c).Start)
@@ -23,6 +23,6 @@ size-requires-2 c = omega (arith, long (goal.at.size-requires-2 c).Start)
 
 pub returns : goal.returns
 returns c =
-    let s = c.args.s.now in
+    let s = c.args.self.now.bytes.now in
     simp (c.size.ensures.0, c.size-2.ensures.0, c.labels_match.ensures)
-    (ap (λ (k : Counts). eqb (size_at s 2) (2 * k.actions) && eqb (size_at s 3) (2 * k.people) && labels_match s) c.requires.said)
+    (ap (λ (k : Counts). eqb (size_at s 2) (2 * k.actions) && eqb (size_at s 3) (2 * k.people) && labels_match s) c.args.self.now.opened.said)
