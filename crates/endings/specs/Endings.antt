@@ -48,7 +48,7 @@ differ z = absurd (let w : ⊥ = omega arith in w)
 module _ (g : Graph) (m : Marking) where
   -- ---- what the search comes to
 
-  pub data Outcome (c : ℕ) (a : (Result Ends Refusal)) : Type 0 where
+  pub data Outcome (c : ℕ) (a : Result Ends Refusal) : Type 0 where
     never : (n : ℕ) → a ≡ Ok (Ends.None n) → length (found g m n) ≡ n → n ≤ c → Unfinished g m n → Outcome c a
     reach : (n : ℕ) → a ≡ Ok (Ends.Reachable (depth g m n) (n + 1)) → n < length (found g m n) → length (found g m n) ≤ c → Unfinished g m n
         → is_finished (at g m n) ≡ true → Outcome c a
@@ -252,7 +252,7 @@ module _ (g : Graph) (m : Marking) (store : List ℕ) (answered : first (ends_li
         last = e.last;
         lent = bytes_journal g m e.last e.way (clear_counts g clear) e.passes;
         allowed = run_clear g m (journal_of e.way) clear fits within ∙ ap (run_from g m 0) (entries_journal e.way)
-            ∙ passes_run g m e.last 0 e.way e.passes ∙ ap ((λ x. Ok (ended e.last x))) (let z : 0 + length e.way ≡ n = omega arith in z);
+            ∙ passes_run g m e.last 0 e.way e.passes ∙ ap (λ (x : ℕ). Ok (ended e.last x)) (let z : 0 + length e.way ≡ n = omega arith in z);
         finished = e.finished;
       }
 

@@ -11,8 +11,6 @@ use Rattle.moves.specs.First.{first, number_of_verdict, number_of}
 use Rattle.moves.specs.Move.{within1to, marking_fits}
 use Rattle.moves.specs.Inside.{Inside}
 use Rattle.records.specs.declared.Record.{Record}
-use Rattle.records.specs.Answers.{Recorded}
-use Rattle.moves.specs.Move.{Move}
 use Rattle.records.specs.Records.{applies, gives, well_formed, join}
 use Rattle.records.specs.WellFormed.{Bounded}
 use Rattle.records.specs.Answers.{recorded_of, the_join, applied_of, applied_on, the_application, number_of_recorded, number_of_applied}

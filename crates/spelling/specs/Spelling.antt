@@ -9,7 +9,6 @@ use Rattle.moves.specs.Move.{within1to}
 use Rattle.numbers.specs.Numbers.{number, bytes, Bytes, Spliced}
 use Rattle.numbers.specs.Laws.{drop_bytes, length_bytes, number_bytes, bytes_number, spliced_then, spliced_length}
 use Rattle.records.specs.declared.Record.{Record}
-use Rattle.records.specs.Answers.{Recorded}
 use Rattle.records.specs.Records.{sets_of, well_formed}
 use Rattle.records.specs.WellFormed.{Bounded, well_formed_lem}
 use Rattle.spelling.specs.Bytes.{flag, sets_spelt, record_bytes, record_at, readable, the_reading, to_bytes_lines, room_of, Writing}

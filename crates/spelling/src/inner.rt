@@ -7,6 +7,7 @@ use numbers::{eight, put};
 use records::Record;
 
 // The record that 65 bytes spell.
+#[tactic(auto, unfolding(crate::specs::Bytes::record_at))]
 pub fn record_at(s: &[u8]) -> Record
     requires { 65 ≤ length s.now }
     ensures { result ≡ record_at s.now }
