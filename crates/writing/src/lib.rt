@@ -17,11 +17,10 @@ use rules::{ALLOWS, CONDITIONS, HOLDS, Job, LABELS, RESPONSES, WORDS};
 pub fn content(g: &Job, m: Marking) -> Result<(), Refusal>
     ensures { result ≡ first (content_lines (graph_of g.now) m) }
 {
-    let c = rules::counts(g);
-    if !c.fit() {
+    if !rules::counts(g).fit() {
         return Err(Refusal::Counts);
     }
-    if !moves::inner::fits(c.steps, m) {
+    if !moves::inner::fits(g[0], m) {
         return Err(Refusal::Beyond);
     }
     rules::check(g)

@@ -13,7 +13,7 @@ use Rattle.writing.proofs.content.Goals.{After-fit, Else-not-fit}
 -- whether the counts fit
 said : (c : After-fit)
     → let g = graph_of c.args.g.now in c.fit.result ≡ counts_fit g.steps g.people g.roles g.actions
-said c = c.fit.ensures ∙ ap (λ (k : Counts). counts_fit k.steps k.people k.roles k.actions) c.counts-c.ensures
+said c = c.fit.ensures ∙ ap (λ (k : Counts). counts_fit k.steps k.people k.roles k.actions) c.counts.ensures
 
 pub returns-then-not-fit : goal.returns-then-not-fit
 returns-then-not-fit c =
