@@ -207,7 +207,7 @@ module _ (b : ℕ) (arms : arms_fit b ≡ true) where
         all.last,
         run_clear (cabinet b) m (whole_round b) (clear b arms) fits (inside_fits (b + 2) m i)
             ∙ passes_run (cabinet b) m all.last 0 (entries (whole_round b)) all.passes
-            ∙ ap ((λ x. Ok (ended all.last x)))
+            ∙ ap (λ (x : ℕ). Ok (ended all.last x))
             (let z : 0 + length (entries (whole_round b)) ≡ b + 2 = omega arith in z),
         ending_reached b arms all.last all.inside
             ∙ ap (λ (f : Bool). cond f (Ok Ending.Finished) (Ok Ending.Open)) (stands_finished b b all.last all.stands refl),

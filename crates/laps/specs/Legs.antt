@@ -20,7 +20,7 @@ use Rattle.moves.specs.First.{Verdict}
 use Rattle.rules.specs.Answers.{row_of, entry_asked, entry_move}
 use Rattle.moves.specs.Move.{after, move_of}
 use Rattle.folding.specs.Effect.{after_all}
-use Rattle.laps.specs.Decision.{Leg}
+use Rattle.laps.specs.Decision.{Went}
 use Rattle.laps.specs.Endless.{step_at, marking_at, DueAt, DoneAt, ExcludedAt, Waiting}
 use Rattle.laps.specs.Inner.{verdict_at}
 use Rattle.laps.specs.Decision.{still, go_through, leg_on}
@@ -168,14 +168,14 @@ module _ (g : Graph) (m : Marking) (e : ℕ → Entry) where
   -- ---- a leg
 
   -- all n entries are allowed
-  pub record Passed (i n w : ℕ) (leg : Leg) : Type 0 where
+  pub record Passed (i n w : ℕ) (leg : Went) : Type 0 where
     pub left : ℕ
     pub is : leg ≡ Ok (leg (M (i + n)) left)
     pub allowed : (j : ℕ) → i ≤ j → j < i + n → says j ≡ Ok tt
     pub kept : Throughout i n w left
 
   -- one of them is not
-  pub record Barred (i n k : ℕ) (leg : Leg) : Type 0 where
+  pub record Barred (i n k : ℕ) (leg : Went) : Type 0 where
     pub depth : ℕ
     pub refusal : Refusal
     pub small : depth < n
@@ -195,7 +195,7 @@ module _ (g : Graph) (m : Marking) (e : ℕ → Entry) where
       })
   leg_walks (suc n) i w k = go (says i) refl (leg_walks n (suc i) (still w (M i) (step_at g m e i)) (k + 1))
     where
-      rest : Leg
+      rest : Went
       rest = leg_on g (M (suc i)) (still w (M i) (step_at g m e i)) (k + 1) (chunk e n (suc i))
 
       -- the first of them is allowed, and those after it
