@@ -6,7 +6,6 @@ use Rattle.sets.specs.Sets.{has, single, empty, lowest, those}
 use Rattle.rules.specs.Graph.{Graph}
 use Rattle.moves.specs.declared.Marking.{Marking}
 use Rattle.moves.specs.declared.Entry.{Entry}
-use Rattle.moves.specs.Move.{Move}
 use Rattle.rules.specs.Answers.{the_move}
 use Rattle.rules.specs.Signs.{◌∩◌, ◌∖◌, ◌∪◌, Ex, Re, In}
 use Rattle.moves.specs.Inside.{Inside}

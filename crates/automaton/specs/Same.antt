@@ -14,14 +14,12 @@ use Rattle.sets.specs.Laws.{ext, has_minus, has_union, has_single, has_above, me
 use Rattle.rules.specs.Graph.{Graph, graph_verdict}
 use Rattle.moves.specs.declared.Marking.{Marking}
 use Rattle.moves.specs.declared.Entry.{Entry}
-use Rattle.moves.specs.First.{Verdict}
 use Rattle.moves.specs.First.{first}
 use Rattle.moves.specs.Move.{is_finished, rank_of}
 use Rattle.rules.specs.Laws.{clear_counts}
 use Rattle.moves.specs.Inside.{Inside, inside_fits}
 use Rattle.rules.specs.Entries.{moved_after}
 use Rattle.tracker.specs.declared.Track.{Track}
-use Rattle.tracker.specs.Tracked.{Tracked}
 use Rattle.tracker.specs.Tracker.{is_rank, begin, rest, pending, above, pool, meets, served, track_after}
 use Rattle.tracker.specs.Tracker.{start_lines, the_start, the_idle, the_step}
 use Rattle.automaton.specs.Paper.{State, Initial, Tau, Transition, min, ◌∈?◌, rank_of_min, j', i'}

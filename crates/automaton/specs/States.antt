@@ -18,7 +18,6 @@ use Rattle.moves.specs.Inside.{Inside, fits_inside}
 use Rattle.rules.specs.Sound.{Sound, clear_sound, after_inside}
 use Rattle.rules.specs.Entries.{moved_clear, moved_after}
 use Rattle.tracker.specs.declared.Track.{Track}
-use Rattle.tracker.specs.Tracked.{Tracked}
 use Rattle.tracker.specs.Tracker.{pending, above, pool, meets, served, begin, rest, start_lines, idle_lines, step_lines}
 use Rattle.tracker.specs.Tracker.{tracked_of, the_start, the_idle, the_step, number_of_tracked}
 use Rattle.automaton.specs.Paper.{State}

@@ -42,7 +42,7 @@ pub ending_reached : (b : ℕ) → arms_fit b ≡ true → (m : Marking) → Ins
     → the_ending (cabinet b) m ≡ cond (is_finished m) (Ok Ending.Finished) (Ok Ending.Open)
 ending_reached b arms m i = ending_clear (cabinet b) m (clear b arms) ∙ ending_inside (b + 2) m (inside_fits (b + 2) m i)
 
-by_ending : (f : Bool) (e : (Result Ending Refusal)) → e ≡ cond f (Ok Ending.Finished) (Ok Ending.Open) → (e ≡ Ok Ending.Finished) ↔ (f ≡ true)
+by_ending : (f : Bool) (e : Result Ending Refusal) → e ≡ cond f (Ok Ending.Finished) (Ok Ending.Open) → (e ≡ Ok Ending.Finished) ↔ (f ≡ true)
 by_ending true e q = (λ z. refl, λ z. q)
 by_ending false e q = (
   λ z. absurd (let s : (Ok Ending.Open) ≡ (Ok Ending.Finished) = sym q ∙ z in let y : ◌≡◌ {A = ℕ} 0 1 = cc in let w : ⊥ = omega arith in w),

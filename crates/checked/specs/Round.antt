@@ -1,7 +1,7 @@
 -- Neither sentence is empty: from wherever the job stands a whole round can be run, it publishes, and the job is finished after it, while at
 -- the start it is not. And the desk may publish exactly when all checks have occurred. Assumes nothing.
 use Prim.Native.Nat.{ℕ, zero, suc, ◌+◌, ◌*◌, ◌%◌, ◌≤◌, ◌<◌}
-use Rattle.std.specs.Prelude.{◌≡◌, ◌↔◌, Bool, true, cond}
+use Rattle.std.specs.Prelude.{◌≡◌, ◌↔◌, Bool, true, cond, Ok}
 use Rattle.std.proofs.Math.Path.{refl, ap, subst}
 use Rattle.std.proofs.Common.{sym, ◌∙◌, true≢false, length-append, lit<, lt-ltb, eq-eqb, le-leb}
 use mathlib.Core.List.{List, [], ◌∷◌, ◌++◌}
@@ -35,7 +35,6 @@ use Rattle.checked.specs.Words.{steps_of, checks_in, one_to, since_reboot, check
 use Rattle.checked.specs.Standing.{Stands, stands_first, on_reboot, on_check, on_publish, stands_finished, finished_stands}
 use Rattle.checked.specs.Checked.{Seen, passes_seen, finished_counted}
 use Rattle.checked.specs.Journals.{clear, inside_first, ending_reached, publish_held}
-use Rattle.std.specs.Prelude.{Ok}
 use Rattle.journal.specs.Ran.{ended}
 
 module _ (b : ℕ) (arms : arms_fit b ≡ true) where

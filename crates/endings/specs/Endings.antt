@@ -48,7 +48,7 @@ differ z = absurd (let w : ⊥ = omega arith in w)
 module _ (g : Graph) (m : Marking) where
   -- ---- what the search comes to
 
-  pub data Outcome (c : ℕ) (a : (Result Ends Refusal)) : Type 0 where
+  pub data Outcome (c : ℕ) (a : Result Ends Refusal) : Type 0 where
     never : (n : ℕ) → a ≡ Ok (Ends.None n) → length (found g m n) ≡ n → n ≤ c → Unfinished g m n → Outcome c a
     reach : (n : ℕ) → a ≡ Ok (Ends.Reachable (depth g m n) (n + 1)) → n < length (found g m n) → length (found g m n) ≤ c → Unfinished g m n
         → is_finished (at g m n) ≡ true → Outcome c a

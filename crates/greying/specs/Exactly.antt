@@ -17,7 +17,6 @@ use Rattle.rules.specs.Answers.{the_asked, marking_lines}
 use Rattle.rules.specs.Entries.{Named, known_named}
 use Rattle.rules.specs.Paper.{Ready, Allowed}
 use Rattle.rules.proofs.Taken.{asked_allowed, allowed_asked}
-use Rattle.greying.specs.Greying.{Choice}
 use Rattle.greying.specs.Greying.{granted, allowed_to, allowed_to_someone, choice_lines, choice_of, the_choice, the_choice_of_all}
 use Rattle.greying.specs.Greying.{number_of_choice}
 use Rattle.std.specs.Prelude.{Ok, Err}

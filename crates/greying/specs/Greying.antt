@@ -1,14 +1,13 @@
 -- Which steps are allowed to a person, and to anyone: those that `ask` allows in some role.
-use Rattle.std.specs.Prelude.{ℕ, List, [], ◌∷◌, ◌++◌, Bool, true, false, not, ltb}
+use Rattle.std.specs.Prelude.{ℕ, List, [], ◌∷◌, ◌++◌, Bool, true, false, not, ltb, Result, Ok, Err}
 use Rattle.sets.specs.Sets.{any, those}
 use Rattle.moves.specs.declared.Marking.{Marking}
 use Rattle.moves.specs.declared.Refusal.TheVariants.{Unknown}
-use Rattle.moves.specs.First.{Verdict}
-use Rattle.moves.specs.First.{Line, first, number_of}
+use Rattle.moves.specs.declared.Refusal.{Refusal}
+use Rattle.moves.specs.First.{Verdict, Line, first, number_of}
 use Rattle.moves.specs.Move.{entry_of}
 use Rattle.rules.specs.Graph.{Graph, graph_lines}
 use Rattle.rules.specs.Answers.{the_asked, marking_lines}
-use Rattle.std.specs.Prelude.{Ok, Err}
 
 -- the answer to who asks is yes
 unfoldable pub granted : Verdict → Bool
@@ -32,6 +31,10 @@ abbrev pub choice_lines : Graph → Marking → ℕ → List Line
 choice_lines g m p = graph_lines g ++ marking_lines g m ++ person_lines g p
 
 -- ---- the answers
+
+-- the steps to choose from; or why there are none to choose from
+abbrev pub Choice : Type 0
+Choice = Result ℕ Refusal
 
 unfoldable pub choice_of : Verdict → ℕ → Choice
 choice_of (Ok _) steps = Ok steps

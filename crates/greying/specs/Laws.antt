@@ -20,7 +20,6 @@ use Rattle.rules.specs.Graph.{Graph, graph_lines, graph_verdict, conditions_of, 
 use Rattle.rules.specs.Answers.{the_asked, entry_known, marking_lines}
 use Rattle.rules.specs.Laws.{asked_clear, on_inside, entry_known_lem, clear_counts}
 use Rattle.rules.specs.Sound.{clear_sound}
-use Rattle.greying.specs.Greying.{Choice}
 use Rattle.greying.specs.Greying.{granted, allowed_to, allowed_to_someone, person_lines, choice_of, the_choice, the_choice_of_all}
 use Rattle.greying.specs.Rows.{step_passes, steps_for}
 use Rattle.std.specs.Prelude.{Ok, Err}

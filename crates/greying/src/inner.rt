@@ -5,7 +5,6 @@ ghost use Rattle.rules.specs.Graph.{graph_of, graph_verdict, roles_held};
 ghost use Rattle.greying.specs.Greying.{the_choice, the_choice_of_all};
 ghost use Rattle.greying.specs.Rows.{Tabled, row_passes, rows_passing, steps_for};
 
-use crate::Choice;
 use moves::inner::{fits, waits};
 use moves::{Marking, Refusal};
 use rules::inner::row_at;
@@ -34,10 +33,8 @@ fn passing<'a>(
     requires { Tabled count labels.now allows.now conditions.now }
     ensures { result ≡ rows_passing labels.now allows.now conditions.now count held m }
 {
-    let mut s = count;
     let mut found = 0;
-    while 0 < s {
-        s -= 1;
+    for s in (0..count).rev() {
         let a = labels[s] as usize;
         found = (found + found) + (passes(held, allows[a], conditions[s], m) as u64);
     }
@@ -88,8 +85,7 @@ pub fn choice_on(g: &Job, m: Marking, person: u64) -> Result<u64, Refusal>
     if g[1] <= person {
         return Err(Refusal::Unknown);
     }
-    let w = row_at(g, person as u8, 0);
-    Ok(steps_for(g, m, w.held))
+    Ok(steps_for(g, m, row_at(g, person as u8, 0).held))
 }
 
 // A marking, and whoever there is. Refusal 8.
@@ -100,6 +96,5 @@ pub fn choice_of_all_on(g: &Job, m: Marking) -> Result<u64, Refusal>
     if !fits(g[0], m) {
         return Err(Refusal::Outside);
     }
-    let held = roles_of_all(g);
-    Ok(steps_for(g, m, held))
+    Ok(steps_for(g, m, roles_of_all(g)))
 }

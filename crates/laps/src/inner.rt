@@ -67,7 +67,7 @@ fn go_through<'a>(g: &'a Job, m: Marking, j: &[u8]) -> Result<Leg, Halt>
         let e = entry_at(j, k);
         if !allowed(&singles, g, at, e) {
             let index = k as u16;
-            return Err(halt(index, against(g, at, e)));
+            return Err(halted(index, against(g, at, e)));
         }
         let next = taken(g, at, e);
         left = remain(left, at, e.step.0);
@@ -76,7 +76,7 @@ fn go_through<'a>(g: &'a Job, m: Marking, j: &[u8]) -> Result<Leg, Halt>
     Ok(Leg { marking: at, left })
 }
 
-fn halt(index: u16, refusal: Refusal) -> Halt
+fn halted(index: u16, refusal: Refusal) -> Halt
     ensures { result ≡ halt index refusal }
 {
     Halt { index, refusal }

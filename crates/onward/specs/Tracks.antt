@@ -3,7 +3,7 @@ use Rattle.std.specs.Prelude.{ℕ, cond, ltb}
 use Rattle.moves.specs.declared.Rank.{Rank}
 use Rattle.moves.specs.Move.{no_marking}
 use Rattle.tracker.specs.declared.Track as states
-use Rattle.tracker.specs.Tracked.{Tracked}
+use Rattle.tracker.specs.Tracker.{Tracked}
 use Rattle.onward.specs.declared.Track.{Track}
 use Rattle.std.specs.Prelude.{Ok, Err}
 use Rattle.tracker.specs.declared.Unmoved.{Unmoved}

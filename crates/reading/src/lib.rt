@@ -11,7 +11,7 @@ ghost use Rattle.reading.specs.Laws.{Placed, Opened, Matched};
 ghost use Rattle.reading.specs.Judged.{Judged};
 
 use bodies::Counts;
-use moves::{Marking, Refusal, Verdict};
+use moves::{Marking, Refusal};
 use rules::CONDITIONS;
 
 // A form of sheet: how many bodies it has, the bytes of body 1 and which of them counts the actions, the least and the most bytes.
@@ -149,10 +149,8 @@ fn kinds_right(s: &[u8], c: Counts, table: &[u64; 256]) -> bool
 {
     let count = c.steps as usize;
     let mut both = 0;
-    let mut a = 0;
-    while a < count {
-        both = both | (table[128 + a] & table[192 + a]);
-        a += 1;
+    for a in 0..count {
+        both |= table[128 + a] & table[192 + a];
     }
     both == 0
 }

@@ -8,7 +8,7 @@ use Rattle.moves.specs.Move.{Move}
 use Rattle.moves.specs.Move.{entry_of, number_of_asked, waiting_of_asked, number_of_move, waiting_of_move, marking_of_move}
 use Rattle.rules.specs.Graph.{Graph}
 use Rattle.records.specs.Answers.{Recorded}
-use Rattle.tracker.specs.Tracked.{Tracked}
+use Rattle.tracker.specs.Tracker.{Tracked}
 use Rattle.tracker.specs.Tracker.{the_step}
 use Rattle.std.specs.Prelude.{Ok, Err}
 use Rattle.tracker.specs.declared.Unmoved.{Unmoved}

@@ -1,6 +1,6 @@
 -- The laws of the tracker: which answer is given, by what is found; the rule by its cases; and what an answer with a state says.
 -- Assumes nothing.
-use Rattle.std.specs.Prelude.{ℕ, ◌+◌, ◌<◌, ◌≤◌, ◌≡◌, refl, List, [], ◌++◌, Bool, true, false, not, ◌&&◌, cond, leb, ltb}
+use Rattle.std.specs.Prelude.{ℕ, ◌+◌, ◌<◌, ◌≤◌, ◌≡◌, refl, List, [], ◌++◌, Bool, true, false, not, ◌&&◌, cond, leb, ltb, Ok, Err}
 use Rattle.std.proofs.Common.{sym, ap, ap₂, ◌∙◌, arith, lt-ltb, le-ltb, ne_eqb, le-leb, leb-true}
 use Rattle.std.proofs.Math.Decide.{dec_lt}
 use Rattle.std.proofs.lemmas.Bool.{lt-leb, not-false}
@@ -14,7 +14,6 @@ use Rattle.moves.specs.declared.Entry.{Entry}
 use Rattle.moves.specs.declared.Refusal.{Refusal}
 use Rattle.moves.specs.declared.Refusal.TheVariants.{Outside, NoRank}
 use Rattle.moves.specs.First.{Verdict}
-use Rattle.moves.specs.Move.{Move}
 use Rattle.moves.specs.First.{Line, first, number_of}
 use Rattle.moves.specs.Move.{rank_of, marking_fits}
 use Rattle.rules.specs.Answers.{marking_lines, entry_lines, move_lines, the_move, entry_asked, after_entry}
@@ -22,10 +21,8 @@ use Rattle.moves.specs.Given.{first_clear, first_refused, first_below, numbers_b
 use Rattle.moves.specs.Given.{clear_front, clear_back}
 use Rattle.rules.specs.Entries.{clear_moved, moved_clear, moved_after}
 use Rattle.tracker.specs.declared.Track.{Track}
-use Rattle.tracker.specs.Tracked.{Tracked}
 use Rattle.tracker.specs.Tracker.{is_rank, pending, above, pool, meets, served, begin, rest, track_after, start_lines, rank_lines}
-use Rattle.tracker.specs.Tracker.{idle_lines, step_lines, tracked_of, the_start, the_idle, the_step}
-use Rattle.std.specs.Prelude.{Ok, Err}
+use Rattle.tracker.specs.Tracker.{idle_lines, step_lines, Tracked, tracked_of, the_start, the_idle, the_step}
 use Rattle.tracker.specs.declared.Unmoved.{Unmoved}
 
 -- ---- what is against graph and marking

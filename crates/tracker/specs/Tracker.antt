@@ -1,5 +1,5 @@
 -- The tracker (Definition 7), as a rule that is quick to follow. A state is a marking, a rank i and a flag.
-use Rattle.std.specs.Prelude.{ℕ, List, [], ◌∷◌, ◌++◌, Bool, true, not, ◌&&◌, ◌||◌, cond, eqb, leb}
+use Rattle.std.specs.Prelude.{ℕ, List, [], ◌∷◌, ◌++◌, Bool, true, not, ◌&&◌, ◌||◌, cond, eqb, leb, Result, Ok, Err}
 use Rattle.sets.specs.Sets.{has, meet, minus, empty, full, lowest}
 use Rattle.rules.specs.Graph.{Graph, graph_lines}
 use Rattle.moves.specs.declared.Marking.{Marking}
@@ -11,8 +11,6 @@ use Rattle.moves.specs.First.{Line, first, number_of, waiting_of}
 use Rattle.moves.specs.Move.{within1to, rank_of, after, is_finished}
 use Rattle.rules.specs.Answers.{row_of, marking_lines, entry_lines}
 use Rattle.tracker.specs.declared.Track.{Track}
-use Rattle.tracker.specs.Tracked.{Tracked}
-use Rattle.std.specs.Prelude.{Ok, Err}
 use Rattle.tracker.specs.declared.Unmoved.{Unmoved}
 
 -- a rank is one of 1, 2, .., n
@@ -82,6 +80,10 @@ abbrev pub step_lines : Graph → Track → Entry → List Line
 step_lines g t e = start_lines g t.marking ++ rank_lines g t.rank ++ entry_lines g t.marking e
 
 -- ---- the answers
+
+-- the state after; or why there is none
+abbrev pub Tracked : Type 0
+Tracked = Result Track Unmoved
 
 -- nothing against it: the state after. Else the refusal, from 11 on with the state handed in, below 11 with none, so that no rank is 0
 unfoldable pub tracked_of : Verdict → Track → Track → Tracked

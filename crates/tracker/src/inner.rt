@@ -2,22 +2,30 @@
 ghost use Rattle.std.specs.Prelude.{◌≡◌, ◌<◌, ◌≤◌};
 ghost use Rattle.moves.specs.First.{first};
 ghost use Rattle.rules.specs.Graph.{graph_of};
-ghost use Rattle.tracker.specs.Tracker.{above, pool, begin, rest, track_after, is_rank, meets, start_lines};
+ghost use Rattle.tracker.specs.Tracker.{above, pool, begin, rest, track_after, is_rank, meets, start_lines, idle_lines};
 
 use crate::Track;
-use moves::{Marking, Rank, Refusal, Step, Verdict};
+use moves::{Marking, Rank, Refusal, Step};
 use rules::Job;
 
 // What is against the graph and the marking. Refusals 2, 4, 6, 8.
 pub fn sound(g: &Job, m: Marking) -> Result<(), Refusal>
     ensures { result ≡ first (start_lines (graph_of g.now) m) }
 {
-    let v = rules::check(g);
-    if let Err(r) = v {
-        return Err(r);
-    }
+    rules::check(g)?;
     if !moves::inner::fits(g[0], m) {
         return Err(Refusal::Outside);
+    }
+    Ok(())
+}
+
+// What is against the graph and a state of the tracker. Refusals 2, 4, 6, 8, 9.
+pub fn sound_state(g: &Job, t: Track) -> Result<(), Refusal>
+    ensures { result ≡ first (idle_lines (graph_of g.now) t) }
+{
+    sound(g, t.marking)?;
+    if !ranked(g[0], t.rank) {
+        return Err(Refusal::NoRank);
     }
     Ok(())
 }
@@ -71,11 +79,9 @@ pub fn rest(t: Track) -> Track
     ensures { result ≡ rest t }
 {
     let kept = t.marking;
-    let i = t.rank;
     Track {
-        marking: kept,
-        rank: i,
         flag: kept.due & kept.included == 0,
+        ..t
     }
 }
 

@@ -5,8 +5,8 @@ ghost use Rattle.std.specs.Prelude.{◌≡◌};
 ghost use Rattle.rules.specs.Graph.{graph_of};
 ghost use Rattle.tracker.specs.Tracker.{the_start, the_idle, the_step};
 
-use crate::inner::{begin, follow, ranked, rest, sound};
-use moves::{Asked, Entry, Marking, Rank, Refusal, Verdict};
+use crate::inner::{begin, follow, rest, sound, sound_state};
+use moves::{Entry, Marking, Rank, Refusal};
 use rules::Job;
 use rules::inner::{ask_entry, taken};
 
@@ -20,22 +20,29 @@ pub struct Track {
     pub flag: bool,
 }
 
-// The state after; or refused (below 11); or refused from 11 on, with the state handed in.
+// Why there is no state after: a refusal below 11; or one from 11 on, and the state that was handed in.
 #[derive(Clone, Copy)]
-pub enum Tracked {
-    At(Track),
+pub enum Unmoved {
     Refused(Refusal),
     Stays(Track, Refusal),
+}
+
+// A refusal below 11, which gives no state back.
+impl From<Refusal> for Unmoved {
+    ghost use Rattle.tracker.specs.declared.Unmoved.{Unmoved};
+
+    ghost from_gives = { λ r u. u ≡ Unmoved.Refused r };
+
+    fn from(refusal: Refusal) -> Unmoved {
+        Unmoved::Refused(refusal)
+    }
 }
 
 // The state that a marking starts with. Refusals 2, 4, 6, 8.
 pub fn start(g: &Job, m: Marking) -> Result<Track, Unmoved>
     ensures { result ≡ the_start (graph_of g.now) m }
 {
-    let v = sound(g, m);
-    if let Err(r) = v {
-        return Err(Unmoved::Refused(r));
-    }
+    sound(g, m)?;
     Ok(begin(m))
 }
 
@@ -43,13 +50,7 @@ pub fn start(g: &Job, m: Marking) -> Result<Track, Unmoved>
 pub fn idle(g: &Job, t: Track) -> Result<Track, Unmoved>
     ensures { result ≡ the_idle (graph_of g.now) t }
 {
-    let v = sound(g, t.marking);
-    if let Err(r) = v {
-        return Err(Unmoved::Refused(r));
-    }
-    if !ranked(g[0], t.rank) {
-        return Tracked::Refused(Refusal::NoRank);
-    }
+    sound_state(g, t)?;
     Ok(rest(t))
 }
 
@@ -57,15 +58,9 @@ pub fn idle(g: &Job, t: Track) -> Result<Track, Unmoved>
 pub fn advance(g: &Job, t: Track, e: Entry) -> Result<Track, Unmoved>
     ensures { result ≡ the_step (graph_of g.now) t e }
 {
-    let v = sound(g, t.marking);
-    if let Err(r) = v {
-        return Err(Unmoved::Refused(r));
-    }
-    if !ranked(g[0], t.rank) {
-        return Tracked::Refused(Refusal::NoRank);
-    }
+    sound_state(g, t)?;
     match ask_entry(g, t.marking, e) {
-        Err(r) => Err(Unmoved::Stays(t, r)),
         Ok(()) => Ok(follow(t, taken(g, t.marking, e), e.step)),
+        Err(r) => Err(Unmoved::Stays(t, r)),
     }
 }

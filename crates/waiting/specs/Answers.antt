@@ -31,7 +31,7 @@ use Rattle.laps.specs.Lapped.{Lapped}
 use Rattle.laps.specs.Endless.{step_at, marking_at, RefusedAt}
 use Rattle.laps.specs.Laps.{endless_run, index_at, pass_at, lap_lines, LapAnswer, number_of_lap, waiting_of_lap, index_of_lap, pass_of_lap}
 use Rattle.tracker.specs.declared.Track.{Track}
-use Rattle.tracker.specs.Tracked.{Tracked}
+use Rattle.tracker.specs.Tracker.{Tracked}
 use Rattle.tracker.specs.Tracker.{begin, rest, start_lines, rank_lines, idle_lines, step_lines, tracked_of, the_start, the_idle, the_step}
 use Rattle.tracker.specs.Tracker.{number_of_tracked, waiting_of_tracked}
 use Rattle.waiting.specs.Entry.{waited_for, Tells, waiting_none, refusal_tells, nothing_told, entry_refused, move_tells}

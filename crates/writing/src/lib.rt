@@ -11,7 +11,7 @@ ghost use Rattle.writing.specs.Laws.{turned_of};
 ghost use Rattle.writing.specs.Parts.{sizes_of, tables_out, bodies_out, length_out};
 
 use bodies::Counts;
-use moves::{Marking, Refusal, Verdict};
+use moves::{Marking, Refusal};
 use rules::{ALLOWS, CONDITIONS, HOLDS, Job, LABELS, RESPONSES, WORDS};
 
 // Refusals 2, 4, 6.

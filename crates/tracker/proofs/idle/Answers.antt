@@ -1,29 +1,23 @@
--- `idle`: what is against graph and marking, then the rank, else the state after. Assumes nothing.
-use mathlib.Core.Path.{sym, ◌∙◌, ap}
+-- `idle`: what is against the state, else the state after. Assumes nothing.
+use mathlib.Core.Path.{◌≡◌, sym, ◌∙◌, ap}
+use Rattle.std.specs.Prelude.{Ok, Err}
+use Rattle.std.proofs.lemmas.Result.{err_from_is_err_and}
+use Rattle.moves.specs.First.{first}
 use Rattle.rules.specs.Graph.{Graph, graph_of}
-use Rattle.tracker.specs.Tracked.{Tracked}
-use Rattle.tracker.specs.Laws.{idle_refused, idle_unranked, idle_clear}
+use Rattle.tracker.specs.Tracker.{idle_lines}
+use Rattle.tracker.specs.Laws.{idle_clear}
+use Rattle.tracker.proofs.State.{idle_refused_state, state_sound, state_ranked}
 use Rattle.tracker.proofs.idle.Goals as goal
-use Rattle.std.specs.Prelude.{Ok}
 
-pub returns-in-Refused : goal.returns-in-Refused
-returns-in-Refused c =
+pub returns-in_err-sound_state : goal.returns-in_err-sound_state
+returns-in_err-sound_state c =
     let a = c.args in
-    sym (idle_refused (graph_of a.g.now) a.t _ (sym c.sound-v.ensures ∙ c.in-Refused.is))
-
-pub returns-then-not-ranked : goal.returns-then-not-ranked
-returns-then-not-ranked c =
-    let a = c.args in
-    let g : Graph = graph_of a.g.now in
-    sym (idle_unranked g a.t
-    (sym c.sound-v.ensures ∙ c.in_default.is)
-    (sym c.ranked.ensures ∙ c.if-not-ranked.true))
+    let out = err_from_is_err_and c.from_residual.result c.from_residual.ensures.1 in
+    out.1 ∙ ap Err out.2 ∙ sym (idle_refused_state (graph_of a.g.now) a.t _ (sym c.sound_state.ensures ∙ c.in_err-sound_state.was))
 
 pub returns : goal.returns
 returns c =
     let a = c.args in
     let g : Graph = graph_of a.g.now in
-    ap Ok c.rest.ensures
-    ∙ sym (idle_clear g a.t
-    (sym c.sound-v.ensures ∙ c.in_default.is)
-    (sym c.ranked.ensures ∙ c.if-not-ranked.false))
+    let clear : first (idle_lines g a.t) ≡ Ok tt = sym c.sound_state.ensures ∙ c.in_ok-sound_state.was in
+    ap Ok c.rest.ensures ∙ sym (idle_clear g a.t (state_sound g a.t clear) (state_ranked g a.t clear))

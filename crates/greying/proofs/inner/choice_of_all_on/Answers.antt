@@ -2,7 +2,6 @@
 use mathlib.Core.Path.{sym, ap, ◌∙◌}
 use Rattle.rules.specs.Graph.{Graph, graph_of}
 use Rattle.rules.specs.Laws.{clear_counts}
-use Rattle.greying.specs.Greying.{Choice}
 use Rattle.greying.specs.Rows.{steps_for}
 use Rattle.greying.specs.Laws.{all_outside, all_steps, steps_of_all}
 use Rattle.greying.proofs.inner.choice_of_all_on.Goals as goal
@@ -21,5 +20,5 @@ returns c =
     let a = c.args in
     let g : Graph = graph_of a.g.now in
     let fit = sym c.fits.ensures ∙ c.if-not-fits.false in
-    ap Ok (c.steps_for.ensures ∙ ap (steps_for g a.m) c.roles_of_all-held.ensures ∙ steps_of_all g a.m c.requires fit)
+    ap Ok (c.steps_for.ensures ∙ ap (steps_for g a.m) c.roles_of_all.ensures ∙ steps_of_all g a.m c.requires fit)
     ∙ sym (all_steps g a.m c.requires fit)

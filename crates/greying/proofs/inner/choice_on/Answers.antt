@@ -6,7 +6,6 @@ use borrow.Author.Tests.{lt-ltb, le-ltb}
 use Rattle.moves.specs.declared.inner.Row.{Row}
 use Rattle.rules.specs.Graph.{Graph, graph_of}
 use Rattle.rules.specs.Laws.{clear_counts}
-use Rattle.greying.specs.Greying.{Choice}
 use Rattle.greying.specs.Rows.{steps_for}
 use Rattle.greying.specs.Laws.{choice_outside, choice_unknown, choice_steps, steps_of_lem}
 use Rattle.greying.proofs.inner.choice_on.Goals as goal
@@ -31,8 +30,8 @@ overflow_cast-person c =
     let most = (clear_counts (graph_of c.args.g.now) c.requires).people_most in
     omega arith
 
-pub row_at-w-requires : goal.row_at-w-requires
-row_at-w-requires c =
+pub row_at-requires : goal.row_at-requires
+row_at-requires c =
     let most = (clear_counts (graph_of c.args.g.now) c.requires).people_most in
     (c.requires, omega arith, omega arith)
 
@@ -42,6 +41,6 @@ returns c =
     let g : Graph = graph_of a.g.now in
     let fit = sym c.fits.ensures ∙ c.if-not-fits.false in
     let known : a.person < g.people = c.if-g-person.false in
-    let held = ap (λ (w : Row). steps_for g a.m w.held) c.row_at-w.ensures in
+    let held = ap (λ (w : Row). steps_for g a.m w.held) c.row_at.ensures in
     ap Ok (c.steps_for.ensures ∙ held ∙ steps_of_lem g a.m c.requires fit a.person known)
     ∙ sym (choice_steps g a.m a.person c.requires fit (lt-ltb _ _ known))

@@ -1,15 +1,12 @@
 -- `inner::passing`: with s rows left, `found` has the steps from s on that pass, each counted from s (`those_down`). Nothing is lost on the
--- way up, since there are at most 64 steps; and each row's action has a row of roles. Assumes nothing.
+-- way up, since there are at most 64 steps. Assumes nothing.
 use Prim.Native.Nat.{ℕ, ◌+◌, ◌-◌, ◌/◌, ◌^◌, ◌≤◌, ◌<◌}
 use native.Mathlib.Omega.{arith}
 use mathlib.Core.Path.{◌≡◌, refl, sym, ap, ap₂, ◌∙◌}
 use mathlib.Core.Bool.{Bool}
-use lib.ListN.{length}
 use mir.Val.{bool_byte}
-use borrow.Author.Rules.{rules}
 use Rattle.sets.specs.Sets.{those}
 use Rattle.sets.specs.Ranges.{those_down, those_room, those_start, those_end}
-use Rattle.tables.specs.Tables.{row}
 use Rattle.greying.specs.Rows.{passes_at}
 use Rattle.greying.proofs.inner.passing.Goals as goal
 use Rattle.greying.proofs.inner.passing.Goals.{In-loop-s}
@@ -33,25 +30,10 @@ more : (c : In-loop-s) (b : Bool) → b ≡ tested c (c.loop-s.s - 1)
     → (c.loop-s.found + c.loop-s.found) + bool_byte b ≡ those c.args.count (tested c) / 2 ^ (c.loop-s.s - 1)
 more c b e =
     let at = c.loop-s in
-    down c.args.count (tested c) at.s at.found b c.loop-s-test.true at.invariant.0 at.invariant.1 e
-
--- the row's action has a row of roles
-labelled : (c : In-loop-s)
-    → let a = c.args in row a.labels.now (c.loop-s.s - 1) < length a.allows.now
-labelled c = c.requires.action_row (c.loop-s.s - 1)
+    down c.args.count (tested c) at.s at.found b c.loop-s-test.true at.auto.s at.invariant e
 
 pub loop-s-init : goal.loop-s-init
-loop-s-init c =
-    let a = c.args in (
-      omega arith,
-      sym (those_start a.count (passes_at a.labels.now a.allows.now a.conditions.now a.held a.m)),
-    )
-
-pub overflow_sub-s : goal.overflow_sub-s
-overflow_sub-s c = omega arith
-
-pub bounds-labels-s : goal.bounds-labels-s
-bounds-labels-s c = omega arith
+loop-s-init c = let a = c.args in sym (those_start a.count (passes_at a.labels.now a.allows.now a.conditions.now a.held a.m))
 
 pub overflow_add-found : goal.overflow_add-found
 overflow_add-found c =
@@ -59,26 +41,14 @@ overflow_add-found c =
     let next = more (goal.at.overflow_add-found c).In-loop-s (tested (goal.at.overflow_add-found c).In-loop-s (c.loop-s.s - 1)) refl in
     omega arith
 
-pub offset_bounds-allows-a : goal.offset_bounds-allows-a
-offset_bounds-allows-a c = search (rules, labelled (goal.at.offset_bounds-allows-a c).In-loop-s)
-
-pub bounds-allows-a : goal.bounds-allows-a
-bounds-allows-a c = let known = labelled (goal.at.bounds-allows-a c).In-loop-s in omega arith
-
-pub bounds-conditions-s : goal.bounds-conditions-s
-bounds-conditions-s c = omega arith
-
 pub overflow_add-found-in-loop-s : goal.overflow_add-found-in-loop-s
 overflow_add-found-in-loop-s c =
     let fits = room (goal.at.overflow_add-found-in-loop-s c).In-loop-s in
     let next = more (goal.at.overflow_add-found-in-loop-s c).In-loop-s c.passes.result c.passes.ensures in
     omega arith
 
-pub loop-s-smaller : goal.loop-s-smaller
-loop-s-smaller c = omega arith
-
 pub loop-s-preserved : goal.loop-s-preserved
-loop-s-preserved c = (omega arith, more (goal.at.loop-s-preserved c).In-loop-s c.passes.result c.passes.ensures)
+loop-s-preserved c = more (goal.at.loop-s-preserved c).In-loop-s c.passes.result c.passes.ensures
 
 pub returns : goal.returns
 returns c =
@@ -86,4 +56,4 @@ returns c =
     let a = c.args in
     let none : at.s ≡ 0 = omega arith in
     let q : ℕ → Bool = passes_at a.labels.now a.allows.now a.conditions.now a.held a.m in
-    at.invariant.1 ∙ ap (λ (k : ℕ). those a.count q / 2 ^ k) none ∙ those_end a.count q
+    at.invariant ∙ ap (λ (k : ℕ). those a.count q / 2 ^ k) none ∙ those_end a.count q

@@ -12,6 +12,6 @@ pub returns : goal.returns
 returns c =
     let block = c.args.g.now in
     let g : Graph = graph_of block in
-    let whole : length block ≡ 404 = c.w-1.given in
+    let whole : length block ≡ 404 = omega arith in
     let sixteen : length g.holds ≡ 16 = rows_at 324 16 block (omega arith) in
     c.roles_named.ensures ∙ ap (λ (k : ℕ). gather k (roles_held g)) sixteen

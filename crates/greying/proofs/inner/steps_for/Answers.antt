@@ -16,7 +16,7 @@ pub passing-found-requires : goal.passing-found-requires
 passing-found-requires c =
     let block = c.args.g.now in
     let sound = clear_sound (graph_of block) c.requires in
-    let whole : length block ≡ 404 = c.w-1.given in
+    let whole : length block ≡ 404 = omega arith in
     let most : row block 0 ≤ 64 = sound.counted.steps_most in
     let labels : length (table_at 340 64 block) ≡ 64 = rows_at 340 64 block (omega arith) in
     let allows : length (table_at 260 64 block) ≡ 64 = rows_at 260 64 block (omega arith) in

@@ -44,7 +44,7 @@ returns-then-not-allowed c =
     let out : is_allowed g l.at (entry_at j l.k) ≡ false =
     ap (is_allowed g l.at) (sym c.entry_at-e.ensures) ∙ sym c.allowed.ensures
     ∙ c.if-not-allowed.true in
-    ap Err (c.halt.ensures ∙ ap (halt l.k) (c.against.ensures
+    ap Err (c.halted.ensures ∙ ap (halt l.k) (c.against.ensures
     ∙ ap (λ (e : Entry). refusal_in (entry_asked g l.at e)) c.entry_at-e.ensures))
     ∙ sym (l.invariant.2 ∙ leg_stopped g l.at l.left j l.k room out)
 

@@ -1,6 +1,0 @@
--- `inner::rest`: the code is the definition. Assumes nothing.
-use mathlib.Core.Path.{refl}
-use Rattle.tracker.proofs.inner.rest.Goals as goal
-
-pub returns : goal.returns
-returns c = refl
