@@ -1,6 +1,6 @@
 -- The laws of a record's bytes: reading undoes writing and writing undoes reading, and equal records have equal bytes. Assumes nothing.
 use Rattle.std.specs.Prelude.{ℕ, zero, suc, ◌+◌, ◌-◌, ◌*◌, ◌%◌, ◌^◌, ◌≤◌, ◌<◌, ◌≡◌, refl, List, [], ◌∷◌, ◌++◌, Bool, true, false, ◌&&◌, cond, length, get_or, take, drop, eqb, leb}
-use Rattle.std.proofs.Common.{sym, ap, ap₂, ◌∙◌, subst, append_assoc, arith, lt_of_lt_of_le, length-drop, take-append-drop, take-suc, add-one, length-append, drop-drop, pow_mono, eq-eqb, le-leb, eqb-true, leb-true}
+use Rattle.std.proofs.Common.{sym, ap, ap₂, ◌∙◌, subst, append_assoc, arith, lt_of_lt_of_le, length-drop, take-append-drop, take-suc, add-one, length-append, length-take-le, drop-drop, pow_mono, eq-eqb, le-leb, eqb-true, leb-true}
 use Rattle.std.proofs.lemmas.List.Edits.{sets-eq}
 use Rattle.sets.specs.Truth.{and_left, and_right}
 use Rattle.moves.specs.First.{Verdict}
@@ -60,6 +60,13 @@ room_behind_sets xs k at old new r s h =
     let l : length (sets_spelt xs) ≡ 8 * length xs = length_spelt xs in
     let same : length new ≡ length old = spliced_length (sets_spelt xs) at old new r s in
     omega arith
+
+-- and behind the first k of them
+pub room_behind_first : (xs : List ℕ) (k j at : ℕ) (old new : List ℕ) (r : ℕ) → Spliced (sets_spelt (take k xs)) at old new r
+    → k ≤ length xs → at + (8 * k + j) ≤ length old → r + j ≤ length new
+room_behind_first xs k j at old new r s few h =
+    let n : length (take k xs) ≡ k = length-take-le k xs few in
+    room_behind_sets (take k xs) j at old new r s (omega arith)
 
 -- behind the first k sets comes the next
 pub spelt_next : (xs : List ℕ) (k at : ℕ) (old mid new : List ℕ) (r q : ℕ) → k < length xs → Spliced (sets_spelt (take k xs)) at old mid r
