@@ -6,6 +6,7 @@ ghost use Rattle.reading.specs.Reading.{arrows_right, kinds_right};
 ghost use Rattle.reading.specs.Laws.{Opened, Matched};
 
 use crate::first_marking;
+use tables::Counts;
 
 #[derive(Clone, Copy)]
 pub struct Sheet<'a> {

@@ -34,7 +34,7 @@ counted : (c : Else-not-fit) → Counted (graph c).steps (graph c).people (graph
 counted c = counts_bound (graph c).steps (graph c).people (graph c).roles (graph c).actions (counts_right_lem c)
 
 pub fits-requires : goal.fits-requires
-fits-requires c = (counted c).steps_most
+fits-requires c = (counted (goal.at.fits-requires c).Else-not-fit).steps_most
 
 pub returns-then-not-fits : goal.returns-then-not-fits
 returns-then-not-fits c =
