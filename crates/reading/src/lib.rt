@@ -11,9 +11,9 @@ ghost use Rattle.reading.specs.Reading.{layout_fits, labels_match, bodies_match,
 ghost use Rattle.reading.specs.Laws.{Placed, Opened, Matched};
 ghost use Rattle.reading.specs.Judged.{Judged};
 
-use bodies::Counts;
 use moves::{Marking, Refusal, Verdict};
 use rules::CONDITIONS;
+use tables::Counts;
 
 // A form of sheet: how many bodies it has, the bytes of body 1 and which of them counts the actions, the least and the most bytes.
 #[derive(Clone, Copy)]
@@ -167,7 +167,7 @@ pub fn judge(s: &[u8], table: &mut [u64; 256]) -> Verdict
         return Verdict::Refused(Refusal::Layout);
     }
     let c = counts(s);
-    if !tables::counts_fit(c.steps, c.people, c.roles, c.actions) {
+    if !c.fit() {
         return Verdict::Refused(Refusal::Counts);
     }
     if !bodies_match(s, c) {

@@ -20,7 +20,7 @@ use Rattle.arrows.specs.Places.{arrows_in_spelt, length_spelt}
 use Rattle.layout.specs.Layout.{start, follows, contents_fit, offset_at, size_at, body_at}
 use Rattle.layout.specs.Lists.{length_part}
 use Rattle.layout.specs.Laws.{bodies_from, laid_fits, laid_bodies}
-use Rattle.bodies.specs.declared.Counts.{Counts}
+use Rattle.tables.specs.declared.Counts.{Counts}
 use Rattle.bodies.specs.Bodies.{counts_body, counts_in, marking_body, marking_in, roles_body, sets_in, role_sets_fit}
 use Rattle.bodies.specs.Bodies.{labels_body, labels_in, actions_fit}
 use Rattle.bodies.specs.Laws.{length_counts, length_marking, length_rows}

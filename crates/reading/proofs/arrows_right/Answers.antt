@@ -7,7 +7,7 @@ use lib.ListN.{length}
 use lib.Dec.{lit<}
 use Rattle.arrows.specs.Arrows.{arrows_in, link_in_order}
 use Rattle.arrows.specs.Loops.{filled}
-use Rattle.bodies.specs.declared.Counts.{Counts}
+use Rattle.tables.specs.declared.Counts.{Counts}
 use Rattle.reading.specs.Reading.{counts_of, arrows_on, arrows_right}
 use Rattle.reading.specs.Laws.{body_there, body_length, opened_counted}
 use Rattle.reading.specs.Judged.{arrows_filled}

@@ -7,12 +7,12 @@ use Rattle.moves.specs.declared.Refusal.TheVariants.{Layout, Counts, Bodies, Bey
 use Rattle.moves.specs.First.{first}
 use Rattle.tables.specs.Tables.{counts_fit}
 use Rattle.tables.specs.Laws.{counts_bound}
-use Rattle.bodies.specs.declared.Counts.{Counts as CountsOf}
+use Rattle.tables.specs.declared.Counts.{Counts as CountsOf}
 use Rattle.reading.specs.Reading.{layout_fits, counts_right, bodies_match, read_lines, read_verdict}
 use Rattle.reading.specs.Laws.{Opened, layout_placed, bodies_matched}
 use Rattle.reading.specs.Judged.{refused, passed, failed}
 use Rattle.reading.proofs.judge.Goals as goal
-use Rattle.reading.proofs.judge.Goals.{After-counts_fit, Else-not-arrows_right, Else-not-bodies_match, Else-not-counts_fit, Else-not-layout_fits, Else-not-sets_inside}
+use Rattle.reading.proofs.judge.Goals.{After-fit, Else-not-arrows_right, Else-not-bodies_match, Else-not-fit, Else-not-layout_fits, Else-not-sets_inside}
 
 -- ---- 1. The layout
 pub returns-then-not-layout_fits : goal.returns-then-not-layout_fits
@@ -34,24 +34,24 @@ pub counts-c-requires : goal.counts-c-requires
 counts-c-requires c = layout_placed (sheet1 c) (fits1 c)
 
 -- the test is on the counts that the sheet says
-counts-said : (c : After-counts_fit) → c.counts_fit.result ≡ counts_right (sheet1 (goal.at.After-counts_fit c).Else-not-layout_fits)
-counts-said c = c.counts_fit.ensures ∙ ap (λ (k : CountsOf). counts_fit k.steps k.people k.roles k.actions) c.counts-c.ensures
+counts-said : (c : After-fit) → c.fit.result ≡ counts_right (sheet1 (goal.at.After-fit c).Else-not-layout_fits)
+counts-said c = c.fit.ensures ∙ ap (λ (k : CountsOf). counts_fit k.steps k.people k.roles k.actions) c.counts-c.ensures
 
-pub returns-then-not-counts_fit : goal.returns-then-not-counts_fit
-returns-then-not-counts_fit c =
-    refused _ _ Counts (left1 (goal.at.returns-then-not-counts_fit c).Else-not-layout_fits ∙ failed Counts _ _ (sym (counts-said (goal.at.returns-then-not-counts_fit c).After-counts_fit) ∙ c.if-not-counts_fit.true))
+pub returns-then-not-fit : goal.returns-then-not-fit
+returns-then-not-fit c =
+    refused _ _ Counts (left1 (goal.at.returns-then-not-fit c).Else-not-layout_fits ∙ failed Counts _ _ (sym (counts-said (goal.at.returns-then-not-fit c).After-fit) ∙ c.if-not-fit.true))
 
-abbrev sheet2 : Else-not-counts_fit → List ℕ
-sheet2 c = sheet1 (goal.at.Else-not-counts_fit c).Else-not-layout_fits
+abbrev sheet2 : Else-not-fit → List ℕ
+sheet2 c = sheet1 (goal.at.Else-not-fit c).Else-not-layout_fits
 
-left2 : (c : Else-not-counts_fit) → read_verdict (sheet2 c) ≡ first (tail (tail (read_lines (sheet2 c))))
-left2 c = left1 (goal.at.Else-not-counts_fit c).Else-not-layout_fits ∙ passed Counts _ _ (sym (counts-said (goal.at.Else-not-counts_fit c).After-counts_fit) ∙ c.if-not-counts_fit.false)
+left2 : (c : Else-not-fit) → read_verdict (sheet2 c) ≡ first (tail (tail (read_lines (sheet2 c))))
+left2 c = left1 (goal.at.Else-not-fit c).Else-not-layout_fits ∙ passed Counts _ _ (sym (counts-said (goal.at.Else-not-fit c).After-fit) ∙ c.if-not-fit.false)
 
-opened : (c : Else-not-counts_fit) → Opened (sheet2 c) c.counts-c.result
+opened : (c : Else-not-fit) → Opened (sheet2 c) c.counts-c.result
 opened c =
-    let fit = sym c.counts_fit.ensures ∙ c.if-not-counts_fit.false in
+    let fit = sym c.fit.ensures ∙ c.if-not-fit.false in
     record {
-      placed = layout_placed (sheet2 c) (fits1 (goal.at.Else-not-counts_fit c).Else-not-layout_fits);
+      placed = layout_placed (sheet2 c) (fits1 (goal.at.Else-not-fit c).Else-not-layout_fits);
       said = c.counts-c.ensures;
       counted = counts_bound _ _ _ _ fit;
     }
@@ -62,20 +62,20 @@ bodies_match-requires c = opened c
 
 pub returns-then-not-bodies_match : goal.returns-then-not-bodies_match
 returns-then-not-bodies_match c =
-    refused _ _ Bodies (left2 (goal.at.returns-then-not-bodies_match c).Else-not-counts_fit ∙ failed Bodies _ _ (sym c.bodies_match.ensures ∙ c.if-not-bodies_match.true))
+    refused _ _ Bodies (left2 (goal.at.returns-then-not-bodies_match c).Else-not-fit ∙ failed Bodies _ _ (sym c.bodies_match.ensures ∙ c.if-not-bodies_match.true))
 
 abbrev sheet3 : Else-not-bodies_match → List ℕ
-sheet3 c = sheet2 (goal.at.Else-not-bodies_match c).Else-not-counts_fit
+sheet3 c = sheet2 (goal.at.Else-not-bodies_match c).Else-not-fit
 
 match3 : (c : Else-not-bodies_match) → bodies_match (sheet3 c) ≡ true
 match3 c = sym c.bodies_match.ensures ∙ c.if-not-bodies_match.false
 
 left3 : (c : Else-not-bodies_match) → read_verdict (sheet3 c) ≡ first (tail (tail (tail (read_lines (sheet3 c)))))
-left3 c = left2 (goal.at.Else-not-bodies_match c).Else-not-counts_fit ∙ passed Bodies _ _ (match3 c)
+left3 c = left2 (goal.at.Else-not-bodies_match c).Else-not-fit ∙ passed Bodies _ _ (match3 c)
 
 -- ---- 4. The first marking, the role sets and the actions
 pub sets_inside-requires : goal.sets_inside-requires
-sets_inside-requires c = (opened (goal.at.sets_inside-requires c).Else-not-counts_fit, bodies_matched (sheet3 c) (match3 c))
+sets_inside-requires c = (opened (goal.at.sets_inside-requires c).Else-not-fit, bodies_matched (sheet3 c) (match3 c))
 
 pub returns-then-not-sets_inside : goal.returns-then-not-sets_inside
 returns-then-not-sets_inside c =
@@ -88,7 +88,7 @@ left4 : (c : Else-not-sets_inside) → read_verdict (sheet4 c) ≡ first (tail (
 left4 c = left3 (goal.at.Else-not-sets_inside c).Else-not-bodies_match ∙ passed Beyond _ _ (sym c.sets_inside.ensures ∙ c.if-not-sets_inside.false)
 
 opened4 : (c : Else-not-sets_inside) → Opened (sheet4 c) c.counts-c.result
-opened4 c = opened (goal.at.Else-not-sets_inside c).Else-not-counts_fit
+opened4 c = opened (goal.at.Else-not-sets_inside c).Else-not-fit
 
 -- ---- 5. The arrows
 pub arrows_right-requires : goal.arrows_right-requires

@@ -6,7 +6,7 @@ use native.Mathlib.Omega.{arith}
 use borrow.Author.Rules.{rules}
 use Rattle.sets.specs.Sets.{union, empty, every, gather}
 use Rattle.sets.specs.Laws.{gather_more, empty_gather}
-use Rattle.bodies.specs.declared.Counts.{Counts}
+use Rattle.tables.specs.declared.Counts.{Counts}
 use Rattle.reading.specs.Laws.{opened_counted}
 use Rattle.reading.specs.Judged.{shared_at, kinds_apart_lem}
 use Rattle.reading.proofs.kinds_right.Goals as goal

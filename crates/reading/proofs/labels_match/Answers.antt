@@ -7,7 +7,7 @@ use lib.Dec.{eqb}
 use lib.ListN.{length}
 use borrow.Author.Tests.{eq-eqb, ne_eqb}
 use Rattle.layout.specs.Layout.{size_at}
-use Rattle.bodies.specs.declared.Counts.{Counts}
+use Rattle.tables.specs.declared.Counts.{Counts}
 use Rattle.reading.specs.Reading.{is_six}
 use Rattle.reading.specs.Laws.{placed_long, part_there, sixth, match_six, match_five}
 use Rattle.reading.proofs.labels_match.Goals as goal

@@ -7,7 +7,7 @@ use lib.ListN.{length}
 use lib.Dec.{lit<}
 use Rattle.moves.specs.Move.{marking_fits}
 use Rattle.layout.specs.Layout.{body_at}
-use Rattle.bodies.specs.declared.Counts.{Counts}
+use Rattle.tables.specs.declared.Counts.{Counts}
 use Rattle.bodies.specs.Bodies.{role_sets_fit, actions_fit}
 use Rattle.reading.specs.Reading.{counts_of, first_of, labels_part}
 use Rattle.reading.specs.Laws.{CountedOf, body_there, body_length, opened_counted}
