@@ -44,10 +44,7 @@ fn following(arms: u64, k: u64) -> u64
     ensures { result ≡ following arms k }
 {
     let last = arms + 1;
-    if k < arms {
-        return k + 1;
-    }
-    last
+    if k < arms { k + 1 } else { last }
 }
 
 fn includes(arms: u64, s: u64) -> u64
