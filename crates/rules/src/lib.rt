@@ -66,7 +66,13 @@ pub fn check(g: &Job) -> Result<(), Refusal>
         excludes: &w[EXCLUDES..ALLOWS],
     };
     let arrows = kinds.checked(c.steps);
-    let named = roles_fit(c.actions, c.people, c.roles, &w[ALLOWS..HOLDS], &w[HOLDS..LABELS]);
+    let named = roles_fit(
+        c.actions,
+        c.people,
+        c.roles,
+        &w[ALLOWS..HOLDS],
+        &w[HOLDS..LABELS],
+    );
     if !((named & labels_fit(c.steps, c.actions, &w[LABELS..WORDS])) & arrows.fit) {
         return Err(Refusal::Beyond);
     }
