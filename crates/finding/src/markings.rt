@@ -4,7 +4,6 @@ ghost use Rattle.finding.specs.Found.{stray_of};
 
 use crate::parts::{Held, beyond, held_in};
 use crate::words::{All, say_finding};
-use lines::display::Set;
 use moves::Marking;
 use output::page::Page;
 use std::fmt;
@@ -38,15 +37,9 @@ pub fn first_stray(n: u64, m: Marking) -> Option<Held<State>>
         .or(held_in(State::Included, beyond(n, m.included)))
 }
 
-// Steps beyond n of a set, and whose set it is, where that has to be said.
-pub fn say_beyond(page: &mut Page, x: Held<State>, whose: &str, n: u64) {
-    let Held { set, steps } = x;
-    let steps = Set(steps);
-    say_finding(
-        page,
-        format_args!("steps {steps} in {set}{whose}"),
-        All("steps", n),
-    );
+// Steps beyond n, and whose set has them, where that has to be said.
+pub fn say_beyond(page: &mut Page, stray: Held<State>, whose: &str, n: u64) {
+    say_finding(page, format_args!("{stray}{whose}"), All("steps", n));
 }
 
 pub fn say_found(page: &mut Page, steps: u64, m: Marking) {

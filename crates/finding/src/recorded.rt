@@ -70,6 +70,14 @@ struct Clash {
     steps: u64,
 }
 
+impl Display for Clash {
+    fn fmt<W: fmt::Write>(&self, f: &mut fmt::Formatter<W>) -> fmt::Result {
+        let Clash { one, other, steps } = *self;
+        let steps = Set(steps);
+        write!(f, "steps {steps} in {one} and in {other}")
+    }
+}
+
 // A set of a record, read from its bytes.
 fn set(s: &[u8], part: Part) -> u64 {
     let at = match part {
@@ -113,31 +121,17 @@ fn say_sets(page: &mut Page, n: u64, s: &[u8]) {
     if 64 < n {
         return;
     }
-    if let (1, Some(Held { set, steps })) = (byte(s, 0), first_beyond(s, 0)) {
-        let steps = Set(steps);
+    let held_though_never = if byte(s, 0) == 1 { first_beyond(s, 0) } else { None };
+    if let Some(held) = held_though_never {
         say_finding(
             page,
-            format_args!("steps {steps} in {set} of a record that is never"),
+            format_args!("{held} of a record that is never"),
             "every set empty",
         );
-        return;
-    }
-    if let Some(Held { set, steps }) = first_beyond(s, n) {
-        let steps = Set(steps);
-        say_finding(
-            page,
-            format_args!("steps {steps} in {set}"),
-            All("steps", n),
-        );
-        return;
-    }
-    if let Some(Clash { one, other, steps }) = first_clash(s) {
-        let steps = Set(steps);
-        say_finding(
-            page,
-            format_args!("steps {steps} in {one} and in {other}"),
-            "no step in both",
-        );
+    } else if let Some(held) = first_beyond(s, n) {
+        say_finding(page, held, All("steps", n));
+    } else if let Some(clash) = first_clash(s) {
+        say_finding(page, clash, "no step in both");
     }
 }
 
