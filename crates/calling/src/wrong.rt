@@ -1,16 +1,24 @@
 // Wrong use, each with its one line.
 use commands::Command;
 use commands::nearest::nearest;
-use commands::shapes::Shape;
+use commands::shapes::{Numbers, Shape};
 use files::arguments::{Call, PATH_MAX, argument};
 use files::complaints::{Complained, complain, complain_of};
 use guide::usage::Use;
 use lines::names::say_name;
 use output::page::Page;
 
+// Is there a place for a file to write? Numbers may stand there instead.
+fn has_out(s: Shape) -> bool {
+    !matches!(
+        s.numbers,
+        Some(Numbers::Entry | Numbers::Person | Numbers::Markings)
+    )
+}
+
 // The file to write, if one is named.
 pub fn out_of(s: Shape, call: &Call) -> Option<usize> {
-    if s.has_out() {
+    if has_out(s) {
         call.operand(s.out)
     } else {
         None
@@ -66,7 +74,7 @@ fn complain_untaken(rt: &HostRuntime, c: Command, option: &str) -> Complained {
 
 // Does the command write a file? Help has a command in that place.
 fn writes(c: Command, s: Shape) -> bool {
-    c != Command::Help && s.has_out() && s.out < s.most
+    c != Command::Help && has_out(s) && s.out < s.most
 }
 
 fn test_options(rt: &HostRuntime, c: Command, s: Shape, call: &Call) -> Result<(), Complained> {

@@ -1,6 +1,10 @@
 // The commands, what each takes, and which one a word means.
 #![tactic(auto)]
 
+ghost use Rattle.std.specs.Prelude.{◌≡◌, ◌≢◌, IfSome, IsNone};
+ghost use Rattle.commands.specs.declared.Command.{Command as Named};
+ghost use Rattle.commands.specs.Words.{word_of};
+
 pub mod nearest;
 pub mod shapes;
 
@@ -57,7 +61,9 @@ impl Command {
         Command::Help,
     ];
 
-    pub fn word(self) -> &'static str {
+    pub fn word(self) -> &'static str
+        ensures { result.now ≡ word_of self }
+    {
         match self {
             Command::Check => "check",
             Command::Show => "show",
@@ -84,14 +90,22 @@ impl Command {
     }
 
     // The command of that word. A word is bytes, as somebody typed it.
-    pub fn named(word: &[u8]) -> Option<Command> {
+    pub fn named(word: &[u8]) -> Option<Command>
+        ensures found { IfSome result (λ c. word_of c ≡ word.now) }
+        ensures none { IsNone result → (c : Named) → word_of c ≢ word.now }
+    {
         Command::ALL
-            .into_iter()
+            .iter()
+            .copied()
             .find(|c| c.word().as_bytes() == word)
     }
 }
 
 impl Display for Command {
+    ghost use Rattle.std.specs.Prelude.{Some};
+
+    ghost output = { λ c. Some (word_of c) };
+
     fn fmt<W: fmt::Write>(&self, f: &mut fmt::Formatter<W>) -> fmt::Result {
         f.write_str(self.word())
     }

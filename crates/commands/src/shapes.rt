@@ -45,14 +45,6 @@ impl Shape {
         }
     }
 
-    // Is there a place for a file to write? Numbers may stand there instead.
-    pub fn has_out(self) -> bool {
-        !matches!(
-            self.numbers,
-            Some(Numbers::Entry | Numbers::Person | Numbers::Markings)
-        )
-    }
-
     // Starts at any marking.
     fn starting(self) -> Shape {
         Shape { from: true, ..self }

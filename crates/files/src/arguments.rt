@@ -1,5 +1,5 @@
 // What the program was called with.
-ghost use Rattle.std.specs.Prelude.{◌≤◌, length};
+ghost use Rattle.std.specs.Prelude.{◌≡◌, ◌+◌, ◌-◌, ◌≤◌, drop, length, slice_get};
 
 use arrayvec::ArrayVec;
 use std::env::{Env, FillError};
@@ -69,12 +69,16 @@ fn flag_of(word: &[u8]) -> Option<Flag> {
 
 impl Call {
     // The command, which is the first operand.
-    pub fn command(&self) -> Option<usize> {
+    pub fn command(&self) -> Option<usize>
+        ensures { result ≡ slice_get self.now.operands.items 0 }
+    {
         self.operands.first().copied()
     }
 
     // The operands behind the command.
-    fn behind(&self) -> &[usize] {
+    fn behind(&self) -> &[usize]
+        ensures { result.now ≡ drop 1 self.now.operands.items }
+    {
         match self.operands.as_slice() {
             [_, behind @ ..] => behind,
             [] => &[],
@@ -82,12 +86,16 @@ impl Call {
     }
 
     // Operand k behind the command.
-    pub fn operand(&self, k: usize) -> Option<usize> {
+    pub fn operand(&self, k: usize) -> Option<usize>
+        ensures { result ≡ slice_get self.now.operands.items (k + 1) }
+    {
         self.behind().get(k).copied()
     }
 
     // How many operands stand behind the command.
-    pub fn operands(&self) -> usize {
+    pub fn operands(&self) -> usize
+        ensures { result ≡ length self.now.operands.items - 1 }
+    {
         self.behind().len()
     }
 
