@@ -1,8 +1,7 @@
 // One entry more behind a journal: is it allowed, and is it put there?
 use files::appending::{End, append};
 use finding::entries::say_found_of;
-use journal::Ran;
-use lines::places::Places;
+use finding::journals::say_full as say_found_full;
 use lines::refusals::{say_refused, say_waited};
 use lines::say::say;
 use lines::states::{Stated, say_ending, say_marking, say_stated};
@@ -10,17 +9,14 @@ use moves::{Asked, Entry, Marking, Move, Refusal, Step};
 use output::page::Page;
 use output::status::Answer;
 use rules::Job;
-use running::runs::say_halted;
+use running::course::{Course, Ended};
 
 // The most bytes that a journal may have: no entry more fits.
 const FULL: usize = 65535;
 
 // There are at most 64 of anything, so that 255 stands for every number that no byte has: nobody, no step, no role.
 fn narrow(x: u64) -> u8 {
-    if 255 < x {
-        return 255;
-    }
-    x as u8
+    u8::try_from(x).unwrap_or(u8::MAX)
 }
 
 fn entry_of(e: Stated) -> Entry {
@@ -31,9 +27,9 @@ fn entry_of(e: Stated) -> Entry {
     }
 }
 
-fn say_full(page: &mut Page, at: usize, j: &[u8]) -> Answer {
-    let refused = say_refused(page, at, Refusal::Length);
-    finding::journals::say_full(page, j);
+fn say_full(page: &mut Page, course: &Course) -> Answer {
+    let refused = say_refused(page, course.places.journal, Refusal::Length);
+    say_found_full(page, course.journal);
     refused
 }
 
@@ -42,37 +38,35 @@ fn say_line(page: &mut Page, k: u16, e: Stated) {
     say(page, b"\n");
 }
 
-// The entry stands in no file, so that none is named. At marking m, behind k entries.
-fn say_not(page: &mut Page, g: &Job, m: Marking, k: u16, e: Stated, r: Refusal) -> Answer {
+// The entry stands in no file, so that none is named.
+fn say_not(page: &mut Page, g: &Job, end: Ended, e: Stated, r: Refusal) -> Answer {
     let refused = say_refused(page, 0, r);
     say_found_of(page, g, e, moves::tell(r));
-    say_line(page, k, e);
+    say_line(page, end.entries, e);
     say_waited(page, r);
-    say_marking(page, m);
+    say_marking(page, end.marking);
     refused
 }
 
-fn ask_at(page: &mut Page, g: &Job, m: Marking, k: u16, e: Stated) -> Answer {
-    let o = rules::ask(g, m, entry_of(e));
-    match o {
+fn ask_at(page: &mut Page, g: &Job, end: Ended, e: Stated) -> Answer {
+    match rules::ask(g, end.marking, entry_of(e)) {
         Asked::Allowed => {
             say(page, b"allowed: yes\n");
-            say_line(page, k, e);
+            say_line(page, end.entries, e);
             Answer::Answered
         }
-        Asked::Refused(r) => say_not(page, g, m, k, e, r),
+        Asked::Refused(r) => say_not(page, g, end, e, r),
     }
 }
 
-// The entry behind the journal, by a call that starts at marking m.
-pub fn ask(page: &mut Page, p: Places, g: &Job, m: Marking, j: &[u8], e: Stated) -> Answer {
-    if j.len() == FULL {
-        return say_full(page, p.journal, j);
+// The entry behind the journal.
+pub fn ask(page: &mut Page, course: &Course, e: Stated) -> Answer {
+    if course.journal.len() == FULL {
+        return say_full(page, course);
     }
-    let o = journal::run(g, m, j);
-    match o {
-        Ran::Ended(end, k) => ask_at(page, g, end, k, e),
-        Ran::Stopped(k, before, r) => say_halted(page, p, g, m, j, k, r, before),
+    match course.run() {
+        Ok(end) => ask_at(page, course.job, end, e),
+        Err(stopped) => course.say_halted(page, stopped),
     }
 }
 
@@ -95,45 +89,27 @@ fn say_taken(page: &mut Page, g: &Job, after: Marking, k: u16, e: Stated) -> Ans
 }
 
 // It is said to be taken when it is on the device.
-fn take_at(
-    page: &mut Page,
-    p: Places,
-    g: &Job,
-    m: Marking,
-    k: u16,
-    e: Stated,
-    at: usize,
-) -> Answer {
+fn take_at(page: &mut Page, course: &Course, end: Ended, e: Stated, at: usize) -> Answer {
     let entry = entry_of(e);
-    let o = rules::take(g, m, entry);
-    match o {
+    match rules::take(course.job, end.marking, entry) {
         Move::Moved(after) => {
-            if !is_kept(page, at, p.journal != 0, k, entry) {
+            if !is_kept(page, at, course.places.journal != 0, end.entries, entry) {
                 return Answer::Failed;
             }
-            say_taken(page, g, after, k, e)
+            say_taken(page, course.job, after, end.entries, e)
         }
-        Move::Refused(_, r) => say_not(page, g, m, k, e, r),
+        Move::Refused(_, r) => say_not(page, course.job, end, e, r),
     }
 }
 
 // The same, and an entry that is allowed is put behind the journal that argument `at` names. It may not be there yet: then no place of
 // the call is the journal's, and it is made.
-pub fn take(
-    page: &mut Page,
-    p: Places,
-    g: &Job,
-    m: Marking,
-    j: &[u8],
-    e: Stated,
-    at: usize,
-) -> Answer {
-    if j.len() == FULL {
-        return say_full(page, p.journal, j);
+pub fn take(page: &mut Page, course: &Course, e: Stated, at: usize) -> Answer {
+    if course.journal.len() == FULL {
+        return say_full(page, course);
     }
-    let o = journal::run(g, m, j);
-    match o {
-        Ran::Ended(end, k) => take_at(page, p, g, end, k, e, at),
-        Ran::Stopped(k, before, r) => say_halted(page, p, g, m, j, k, r, before),
+    match course.run() {
+        Ok(end) => take_at(page, course, end, e, at),
+        Err(stopped) => course.say_halted(page, stopped),
     }
 }
