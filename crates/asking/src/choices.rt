@@ -4,8 +4,8 @@ ghost use Rattle.std.specs.Prelude.{◌<◌};
 use crate::whom::{Shown, choice_of, shown_to};
 use finding::entries::say_found_of;
 use greying::Choice;
+use lines::display::Set;
 use lines::refusals::say_refused;
-use lines::say::{say, say_count, say_number, say_set};
 use lines::states::{Stated, say_ending, say_marking};
 use moves::inner::waits;
 use moves::{Asked, Entry, Marking, Refusal, Step};
@@ -16,13 +16,8 @@ use running::course::{Course, Ended};
 
 // The step stands first: the lines go step by step.
 fn say_may(page: &mut Page, e: Entry) {
-    say(page, b"may: step ");
-    say_number(page, e.step.0 as u64);
-    say(page, b", person ");
-    say_number(page, e.person as u64);
-    say(page, b", role ");
-    say_number(page, e.role as u64);
-    say(page, b"\n");
+    let Step(s) = e.step;
+    writeln!(page, "may: step {s}, person {}, role {}", e.person, e.role);
 }
 
 impl Shown<'_> {
@@ -53,12 +48,8 @@ impl Shown<'_> {
 
     fn say_unheld(&self, page: &mut Page) {
         match self.person {
-            None => say(page, b", nobody holds a role that it has\n"),
-            Some(p) => {
-                say(page, b", person ");
-                say_number(page, p);
-                say(page, b" holds no role that it has\n");
-            }
+            None => writeln!(page, ", nobody holds a role that it has"),
+            Some(p) => writeln!(page, ", person {p} holds no role that it has"),
         }
     }
 
@@ -69,12 +60,10 @@ impl Shown<'_> {
         if !sets::has(self.held, s) {
             self.say_unheld(page);
         } else if !sets::has(self.marking.included, s) {
-            say(page, b", not included\n");
+            writeln!(page, ", not included");
         } else {
-            let conditions = self.job[CONDITIONS + s as usize];
-            say(page, b", waits for ");
-            say_set(page, waits(conditions, self.marking));
-            say(page, b"\n");
+            let open = waits(self.job[CONDITIONS + s as usize], self.marking);
+            writeln!(page, ", waits for {}", Set(open));
         }
     }
 
@@ -85,8 +74,7 @@ impl Shown<'_> {
             self.say_people(page, s);
             return;
         }
-        say(page, b"blocked: step ");
-        say_number(page, s as u64);
+        write!(page, "blocked: step {s}");
         self.say_back(page, s);
     }
 
@@ -99,7 +87,7 @@ impl Shown<'_> {
 
 fn say_shown(page: &mut Page, entries: u16, shown: Shown) -> Answer {
     let m = shown.marking;
-    say_count(page, b"entries", entries as u64);
+    writeln!(page, "entries: {entries}");
     say_marking(page, m);
     shown.say_choices(page);
     say_ending(page, rules::finished(shown.job, m), m)
@@ -107,7 +95,7 @@ fn say_shown(page: &mut Page, entries: u16, shown: Shown) -> Answer {
 
 // The person was named by the call, so that no file is; and there is no entry.
 fn say_nobody(page: &mut Page, g: &Job, m: Marking, person: Option<u64>, r: Refusal) -> Answer {
-    let refused = say_refused(page, 0, r);
+    let refused = say_refused(page, None, r);
     let stated = Stated {
         person: person.unwrap_or(0),
         step: 0,

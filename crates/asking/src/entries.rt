@@ -1,10 +1,9 @@
 // One entry more behind a journal: is it allowed, and is it put there?
 use files::appending::{End, append};
+use files::complaints::Complained;
 use finding::entries::say_found_of;
-use finding::journals::say_full as say_found_full;
 use lines::refusals::{say_refused, say_waited};
-use lines::say::say;
-use lines::states::{Stated, say_ending, say_marking, say_stated};
+use lines::states::{Stated, say_ending, say_marking};
 use moves::{Asked, Entry, Marking, Move, Refusal, Step};
 use output::page::Page;
 use output::status::Answer;
@@ -28,21 +27,16 @@ fn entry_of(e: Stated) -> Entry {
 }
 
 fn say_full(page: &mut Page, course: &Course) -> Answer {
-    let refused = say_refused(page, course.places.journal, Refusal::Length);
-    say_found_full(page, course.journal);
+    let refused = say_refused(page, course.journal.at, Refusal::Length);
+    finding::journals::say_full(page, course.journal.bytes);
     refused
-}
-
-fn say_line(page: &mut Page, k: u16, e: Stated) {
-    say_stated(page, k as u64, e);
-    say(page, b"\n");
 }
 
 // The entry stands in no file, so that none is named.
 fn say_not(page: &mut Page, g: &Job, end: Ended, e: Stated, r: Refusal) -> Answer {
-    let refused = say_refused(page, 0, r);
+    let refused = say_refused(page, None, r);
     say_found_of(page, g, e, moves::tell(r));
-    say_line(page, end.entries, e);
+    writeln!(page, "entry {}: {e}", end.entries);
     say_waited(page, r);
     say_marking(page, end.marking);
     refused
@@ -51,8 +45,7 @@ fn say_not(page: &mut Page, g: &Job, end: Ended, e: Stated, r: Refusal) -> Answe
 fn ask_at(page: &mut Page, g: &Job, end: Ended, e: Stated) -> Answer {
     match rules::ask(g, end.marking, entry_of(e)) {
         Asked::Allowed => {
-            say(page, b"allowed: yes\n");
-            say_line(page, end.entries, e);
+            writeln!(page, "allowed: yes\nentry {}: {e}", end.entries);
             Answer::Answered
         }
         Asked::Refused(r) => say_not(page, g, end, e, r),
@@ -61,7 +54,7 @@ fn ask_at(page: &mut Page, g: &Job, end: Ended, e: Stated) -> Answer {
 
 // The entry behind the journal.
 pub fn ask(page: &mut Page, course: &Course, e: Stated) -> Answer {
-    if course.journal.len() == FULL {
+    if course.journal.bytes.len() == FULL {
         return say_full(page, course);
     }
     match course.run() {
@@ -70,46 +63,51 @@ pub fn ask(page: &mut Page, course: &Course, e: Stated) -> Answer {
     }
 }
 
-// Are the entry's bytes behind the k entries of the journal that argument `at` names, if it was found? Else it was complained of.
-fn is_kept(page: &Page, at: usize, found: bool, k: u16, e: Entry) -> bool {
-    let bytes = [e.person, e.step.0, e.role];
-    let end = End {
-        at: at,
-        found: found,
-        length: 3 * (k as u32),
-    };
-    append(&page.rt(), end, &bytes)
+// Puts the entry's bytes behind the journal that argument `at` names. One that was not found is made.
+fn keep(page: &Page, at: usize, end: Option<u32>, e: Entry) -> Result<(), Complained> {
+    let end = End { at, length: end };
+    append(&page.rt(), end, &[e.person, e.step.0, e.role])
 }
 
 fn say_taken(page: &mut Page, g: &Job, after: Marking, k: u16, e: Stated) -> Answer {
-    say(page, b"taken: yes\n");
-    say_line(page, k, e);
+    writeln!(page, "taken: yes\nentry {k}: {e}");
     say_marking(page, after);
     say_ending(page, rules::finished(g, after), after)
 }
 
 // It is said to be taken when it is on the device.
-fn take_at(page: &mut Page, course: &Course, end: Ended, e: Stated, at: usize) -> Answer {
+fn take_at(
+    page: &mut Page,
+    course: &Course,
+    end: Ended,
+    e: Stated,
+    at: usize,
+) -> Result<Answer, Complained> {
     let entry = entry_of(e);
     match rules::take(course.job, end.marking, entry) {
         Move::Moved(after) => {
-            if !is_kept(page, at, course.places.journal != 0, end.entries, entry) {
-                return Answer::Failed;
-            }
-            say_taken(page, course.job, after, end.entries, e)
+            let k = end.entries;
+            let found = course.journal.at;
+            keep(page, at, found.map(|_| 3 * u32::from(k)), entry)?;
+            Ok(say_taken(page, course.job, after, k, e))
         }
-        Move::Refused(_, r) => say_not(page, course.job, end, e, r),
+        Move::Refused(_, r) => Ok(say_not(page, course.job, end, e, r)),
     }
 }
 
-// The same, and an entry that is allowed is put behind the journal that argument `at` names. It may not be there yet: then no place of
-// the call is the journal's, and it is made.
-pub fn take(page: &mut Page, course: &Course, e: Stated, at: usize) -> Answer {
-    if course.journal.len() == FULL {
-        return say_full(page, course);
+// The same, and an entry that is allowed is put behind the journal that argument `at` names. It may not be there yet: then nothing
+// names the course's journal, and it is made.
+pub fn take(
+    page: &mut Page,
+    course: &Course,
+    e: Stated,
+    at: usize,
+) -> Result<Answer, Complained> {
+    if course.journal.bytes.len() == FULL {
+        return Ok(say_full(page, course));
     }
     match course.run() {
         Ok(end) => take_at(page, course, end, e, at),
-        Err(stopped) => course.say_halted(page, stopped),
+        Err(stopped) => Ok(course.say_halted(page, stopped)),
     }
 }

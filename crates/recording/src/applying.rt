@@ -1,32 +1,34 @@
 // Records applied to a marking.
+use files::complaints::Complained;
 use files::writing::Target;
-use lines::places::{Places, place_of};
 use lines::refusals::say_refused;
 use lines::states::say_marking;
 use moves::{Marking, Refusal};
 use output::page::Page;
 use output::status::Answer;
 use records::{Applied, Record, Recorded};
-use running::course::{Course, Input, measured, say_unmeasured, told};
+use running::course::{Course, Input, Stopped, measured, say_unmeasured, told};
 use running::markings::{keep_marking, say_kept};
 use running::runs::say_ended;
 
-fn say_given(page: &mut Page, m: Marking, t: Target) -> Answer {
-    if !keep_marking(page, t, m) {
-        return Answer::Failed;
-    }
+fn say_given(page: &mut Page, m: Marking, t: Target) -> Result<Answer, Complained> {
+    keep_marking(page, t, m)?;
     say_marking(page, m);
     say_kept(page, t);
-    Answer::Answered
+    Ok(Answer::Answered)
 }
 
-// 16 gives back the marking that was handed in.
-fn say_unapplied(page: &mut Page, p: Places, record: Record, r: Refusal, m: Marking) -> Answer {
-    let refused = say_refused(page, place_of(p, r), r);
-    if let Refusal::NotApplied = r {
-        finding::recorded::say_unapplied(page, record, m);
-        say_marking(page, m);
-    }
+// 16 gives back the marking that was handed in; argument `at` names the record.
+fn say_unapplied(
+    page: &mut Page,
+    at: Option<usize>,
+    record: Record,
+    m: Marking,
+    r: Refusal,
+) -> Answer {
+    let refused = say_refused(page, at, r);
+    finding::recorded::say_unapplied(page, record, m);
+    say_marking(page, m);
     refused
 }
 
@@ -37,59 +39,84 @@ pub fn say_ill_formed(page: &mut Page, n: u64, record: Input, r: Refusal) -> Ans
     refused
 }
 
-fn apply_read(page: &mut Page, p: Places, n: u64, record: Input, m: Marking, t: Target) -> Answer {
+fn apply_read(
+    page: &mut Page,
+    n: u64,
+    record: Input,
+    m: Marking,
+    t: Target,
+) -> Result<Answer, Complained> {
     match spelling::read(n, record.bytes) {
         Recorded::Made(read) => match read.apply(m, n) {
             Applied::Gives(after) => say_given(page, after, t),
-            Applied::Refused(before, r) => say_unapplied(page, p, read, r, before),
+            Applied::Refused(before, r) => Ok(say_unapplied(page, record.at, read, before, r)),
         },
-        Recorded::Refused(r) => say_ill_formed(page, n, record, r),
+        Recorded::Refused(r) => Ok(say_ill_formed(page, n, record, r)),
     }
 }
 
-// 2 is N's, which is in no file.
-fn say_unfit(page: &mut Page, p: Places, n: u64, m: Marking, r: Refusal) -> Answer {
-    let refused = say_refused(page, place_of(p, r), r);
+// 8 is the marking's, which argument `at` names; 2 is N's, which is in no file.
+fn say_unfit(page: &mut Page, n: u64, m: Marking, at: Option<usize>, r: Refusal) -> Answer {
     match r {
-        Refusal::Outside => finding::markings::say_found(page, n, m),
-        _ => finding::recorded::say_count_of(page, n),
+        Refusal::Outside => {
+            let refused = say_refused(page, at, r);
+            finding::markings::say_found(page, n, m);
+            refused
+        }
+        _ => {
+            let refused = say_refused(page, None, r);
+            finding::recorded::say_count_of(page, n);
+            refused
+        }
     }
-    refused
 }
 
 // 2 and 8 come before 10, which the record's bytes alone can give: the identity, which always applies, asks for them first.
-pub fn apply(page: &mut Page, p: Places, n: u64, record: Input, m: Marking, t: Target) -> Answer {
+pub fn apply(
+    page: &mut Page,
+    n: u64,
+    record: Input,
+    m: Marking,
+    at: Option<usize>,
+    t: Target,
+) -> Result<Answer, Complained> {
     match Record::IDENTITY.apply(m, n) {
-        Applied::Gives(_) => apply_read(page, p, n, record, m, t),
-        Applied::Refused(_, r) => say_unfit(page, p, n, m, r),
+        Applied::Gives(_) => apply_read(page, n, record, m, t),
+        Applied::Refused(_, r) => Ok(say_unfit(page, n, m, at, r)),
     }
 }
 
-fn restore_read(page: &mut Page, course: &Course, record: Record, t: Target) -> Answer {
-    let restored = folding::restore(course.job, record, course.journal, course.start);
-    match told(restored) {
-        Ok(end) => say_ended(page, course.job, end, t),
-        Err(stopped) => match stopped.refusal {
-            Refusal::NotApplied => say_unapplied(
-                page,
-                course.places,
-                record,
-                stopped.refusal,
-                stopped.marking,
-            ),
-            _ => course.say_stopped(page, stopped),
-        },
+// 16 is the record's; else a run of the journal was refused.
+fn say_unrestored(
+    page: &mut Page,
+    course: &Course,
+    at: Option<usize>,
+    record: Record,
+    s: Stopped,
+) -> Answer {
+    match s.refusal {
+        Refusal::NotApplied => say_unapplied(page, at, record, s.marking, s.refusal),
+        _ => course.say_stopped(page, s),
     }
 }
 
 // 7 comes before 10, so that the journal's length is asked for first.
-pub fn restore(page: &mut Page, course: &Course, record: Input, t: Target) -> Answer {
+pub fn restore(
+    page: &mut Page,
+    course: &Course,
+    record: Input,
+    t: Target,
+) -> Result<Answer, Complained> {
     if let Err(r) = measured(course.journal) {
-        return say_unmeasured(page, course.input(), r);
+        return Ok(say_unmeasured(page, course.journal, r));
     }
-    let n = course.job[0];
-    match spelling::read(n, record.bytes) {
-        Recorded::Made(read) => restore_read(page, course, read, t),
-        Recorded::Refused(r) => say_ill_formed(page, n, record, r),
+    let g = course.job;
+    let read = match spelling::read(g[0], record.bytes) {
+        Recorded::Made(read) => read,
+        Recorded::Refused(r) => return Ok(say_ill_formed(page, g[0], record, r)),
+    };
+    match told(folding::restore(g, read, course.journal.bytes, course.start)) {
+        Ok(end) => say_ended(page, g, end, t),
+        Err(stopped) => Ok(say_unrestored(page, course, record.at, read, stopped)),
     }
 }

@@ -1,9 +1,9 @@
 // Records made, and written as 65 bytes.
 use crate::applying::say_ill_formed;
 use crate::never::say_never;
+use files::complaints::Complained;
 use files::writing::{Target, store_to};
 use lines::refusals::say_refused;
-use lines::say::say_wrote;
 use lines::states::say_record;
 use moves::{Refusal, Verdict};
 use output::page::Page;
@@ -12,17 +12,15 @@ use records::{Record, Recorded};
 use running::course::{Course, Input};
 
 // The record of n steps to its file, and then its lines.
-fn keep_record(page: &mut Page, n: u64, r: Record, t: Target) -> Answer {
+fn keep_record(page: &mut Page, n: u64, r: Record, t: Target) -> Result<Answer, Complained> {
     let mut room = [0u8; 65];
     match spelling::write(n, r, &mut room) {
-        Verdict::Refused(refusal) => say_refused(page, 0, refusal),
+        Verdict::Refused(refusal) => Ok(say_refused(page, None, refusal)),
         Verdict::Clear => {
-            if !store_to(&page.rt(), t, &room) {
-                return Answer::Failed;
-            }
+            store_to(&page.rt(), t, &room)?;
             say_record(page, r);
-            say_wrote(page, 65);
-            Answer::Answered
+            writeln!(page, "wrote: 65 bytes");
+            Ok(Answer::Answered)
         }
     }
 }
@@ -30,21 +28,22 @@ fn keep_record(page: &mut Page, n: u64, r: Record, t: Target) -> Answer {
 fn say_unfolded(page: &mut Page, course: &Course, r: Refusal) -> Answer {
     let refused = course.say_refused(page, r);
     if let Refusal::Length = r {
-        finding::journals::say_found(page, course.journal);
+        finding::journals::say_found(page, course.journal.bytes);
     }
     refused
 }
 
 // A record that never applies is written only where that was asked for.
-pub fn fold(page: &mut Page, course: &Course, t: Target, never: bool) -> Answer {
-    match folding::fold(course.job, course.journal) {
-        Recorded::Made(r) => {
-            if r.never & !never {
-                return say_never(page, course);
-            }
-            keep_record(page, course.job[0], r, t)
-        }
-        Recorded::Refused(r) => say_unfolded(page, course, r),
+pub fn fold(
+    page: &mut Page,
+    course: &Course,
+    t: Target,
+    never: bool,
+) -> Result<Answer, Complained> {
+    match folding::fold(course.job, course.journal.bytes) {
+        Recorded::Made(r) if r.never & !never => Err(say_never(page, course)),
+        Recorded::Made(r) => keep_record(page, course.job[0], r, t),
+        Recorded::Refused(r) => Ok(say_unfolded(page, course, r)),
     }
 }
 
@@ -52,7 +51,7 @@ pub fn fold(page: &mut Page, course: &Course, t: Target, never: bool) -> Answer 
 fn say_unread(page: &mut Page, n: u64, record: Input, r: Refusal) -> Answer {
     match r {
         Refusal::Counts => {
-            let refused = say_refused(page, 0, r);
+            let refused = say_refused(page, None, r);
             finding::recorded::say_count_of(page, n);
             refused
         }
@@ -60,18 +59,24 @@ fn say_unread(page: &mut Page, n: u64, record: Input, r: Refusal) -> Answer {
     }
 }
 
-fn say_joined(page: &mut Page, n: u64, o: Recorded, t: Target) -> Answer {
+fn say_joined(page: &mut Page, n: u64, o: Recorded, t: Target) -> Result<Answer, Complained> {
     match o {
         Recorded::Made(r) => keep_record(page, n, r, t),
-        Recorded::Refused(r) => say_refused(page, 0, r),
+        Recorded::Refused(r) => Ok(say_refused(page, None, r)),
     }
 }
 
-pub fn join(page: &mut Page, n: u64, first: Input, second: Input, t: Target) -> Answer {
+pub fn join(
+    page: &mut Page,
+    n: u64,
+    first: Input,
+    second: Input,
+    t: Target,
+) -> Result<Answer, Complained> {
     match spelling::read(n, first.bytes) {
-        Recorded::Refused(r) => say_unread(page, n, first, r),
+        Recorded::Refused(r) => Ok(say_unread(page, n, first, r)),
         Recorded::Made(before) => match spelling::read(n, second.bytes) {
-            Recorded::Refused(r) => say_unread(page, n, second, r),
+            Recorded::Refused(r) => Ok(say_unread(page, n, second, r)),
             Recorded::Made(after) => say_joined(page, n, before.join(after, n), t),
         },
     }
