@@ -63,10 +63,16 @@ pub fn ask(page: &mut Page, course: &Course, e: Stated) -> Answer {
     }
 }
 
-// Puts the entry's bytes behind the journal that argument `at` names. One that was not found is made.
-fn keep(page: &Page, at: usize, end: Option<u32>, e: Entry) -> Result<(), Complained> {
-    let end = End { at, length: end };
-    append(&page.rt(), end, &[e.person, e.step.0, e.role])
+// Puts the entry's bytes behind the journal that argument `at` names, if one does. A journal that was not found is made.
+fn keep(page: &Page, at: Option<usize>, end: Option<u32>, e: Entry) -> Result<(), Complained> {
+    match at {
+        Some(at) => append(
+            &page.rt(),
+            End { at, length: end },
+            &[e.person, e.step.0, e.role],
+        ),
+        None => Ok(()),
+    }
 }
 
 fn say_taken(page: &mut Page, g: &Job, after: Marking, k: u16, e: Stated) -> Answer {
@@ -81,7 +87,7 @@ fn take_at(
     course: &Course,
     end: Ended,
     e: Stated,
-    at: usize,
+    at: Option<usize>,
 ) -> Result<Answer, Complained> {
     let entry = entry_of(e);
     match rules::take(course.job, end.marking, entry) {
@@ -101,7 +107,7 @@ pub fn take(
     page: &mut Page,
     course: &Course,
     e: Stated,
-    at: usize,
+    at: Option<usize>,
 ) -> Result<Answer, Complained> {
     if course.journal.bytes.len() == FULL {
         return Ok(say_full(page, course));

@@ -28,7 +28,10 @@ fn say_ends(page: &mut Page, markings: u64, o: Ends) -> Answer {
             Answer::No
         }
         Ends::Reachable(fewest, looked) => {
-            writeln!(page, "can end: yes\nfewest entries: {fewest}\nlooked at: {looked}");
+            writeln!(
+                page,
+                "can end: yes\nfewest entries: {fewest}\nlooked at: {looked}"
+            );
             Answer::Answered
         }
         Ends::Refused(r) => say_refused(page, None, r),
