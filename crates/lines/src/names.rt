@@ -19,9 +19,9 @@ pub fn say_file(page: &mut Page, i: Option<usize>) {
     let Some(i) = i else {
         return;
     };
-    let mut name = [0u8; PATH_MAX];
-    let n = argument(&page.rt(), i, &mut name);
+    let mut room = [0u8; PATH_MAX];
+    let name = argument(&page.rt(), i, &mut room);
     write!(page, "file: ");
-    say_name(page, &name[..n]);
+    say_name(page, name);
     writeln!(page);
 }

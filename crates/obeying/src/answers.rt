@@ -3,7 +3,7 @@ use crate::task::{Inputs, Task};
 use calling::wrong::{complain_at, complain_unknown};
 use commands::Command;
 use files::arguments::{PATH_MAX, argument};
-use files::complaints::Complained;
+use files::complaints::{Complained, complain_of};
 use files::writing::Target;
 use lines::refusals::say_refused;
 use lines::states::say_marking;
@@ -14,10 +14,18 @@ use rules::WORDS;
 use running::course::{Course, Input};
 use tour::parts::Folder;
 
+// What is wrong with a file that was read.
+fn complain_file(rt: &HostRuntime, file: Input, what: &str) -> Complained {
+    match file.at {
+        Some(i) => complain_at(rt, i, what),
+        None => complain_of(rt, b"", what),
+    }
+}
+
 // A marking is read at its length alone.
 fn marking_in(rt: &HostRuntime, file: Input) -> Result<Marking, Complained> {
     if file.bytes.len() != 24 {
-        return Err(complain_at(rt, file.at, "a marking has 24 bytes"));
+        return Err(complain_file(rt, file, "a marking has 24 bytes"));
     }
     Ok(bodies::read_marking(file.bytes))
 }

@@ -39,9 +39,11 @@ fn read_and_give(page: &mut Page, t: &Task) -> Result<Answer, Complained> {
 
 // No call writes over a file that it reads.
 fn test_target(rt: &HostRuntime, t: &Task) -> Result<(), Complained> {
-    let out = t.target.at;
+    let Some(out) = t.target.at else {
+        return Ok(());
+    };
     let inputs = [t.first, t.second, t.third, t.from];
-    if inputs.iter().any(|i| same_file(rt, out, *i)) {
+    if inputs.iter().any(|i| same_file(rt, t.target.at, *i)) {
         return Err(complain_at(
             rt,
             out,

@@ -1,6 +1,7 @@
 // What a call asks for, and what it reads for that.
 use calling::numbers::Stating;
-use commands::{Command, Shape};
+use commands::Command;
+use commands::shapes::Shape;
 use files::arguments::Call;
 use files::writing::Target;
 use lines::states::Stated;

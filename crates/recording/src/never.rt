@@ -57,6 +57,6 @@ pub fn say_never(page: &mut Page, course: &Course) -> Complained {
     }
     complain(
         &page.rt(),
-        b"ulz: fold: no marking lets this journal pass, nothing is written; --never writes the record that says so\n",
+        "ulz: fold: no marking lets this journal pass, nothing is written; --never writes the record that says so\n",
     )
 }
