@@ -7,9 +7,14 @@ use std::io::{Error, Print};
 #[derive(Clone, Copy, Debug, PartialEq, Eq)]
 pub struct Complained;
 
-pub fn complain(rt: &HostRuntime, text: &[u8]) -> Complained {
-    let _ = rt.stderr().write_all(text);
+fn complain_line(rt: &HostRuntime, line: &[u8]) -> Complained {
+    let _ = rt.stderr().write_all(line);
     Complained
+}
+
+// The text is a whole line.
+pub fn complain(rt: &HostRuntime, text: &str) -> Complained {
+    complain_line(rt, text.as_bytes())
 }
 
 // What is wrong with the thing of that name.
@@ -20,7 +25,7 @@ pub fn complain_of(rt: &HostRuntime, name: &[u8], what: &str) -> Complained {
     line.join(": ");
     line.join(what);
     line.join("\n");
-    complain(rt, line.as_slice())
+    complain_line(rt, line.as_slice())
 }
 
 // What the system says of the thing of that name.
