@@ -2,7 +2,6 @@
 ghost use Rattle.std.specs.Prelude.{◌<◌};
 
 use crate::whom::{Shown, choice_of, shown_to};
-use finding::entries::say_found_of;
 use greying::Choice;
 use lines::display::Set;
 use lines::refusals::say_refused;
@@ -101,7 +100,7 @@ fn say_nobody(page: &mut Page, g: &Job, m: Marking, person: Option<u64>, r: Refu
         step: 0,
         role: 0,
     };
-    say_found_of(page, g, stated, moves::tell(r));
+    finding::entries::say_found(page, g, stated, r);
     say_marking(page, m);
     refused
 }

@@ -1,7 +1,6 @@
 // One entry more behind a journal: is it allowed, and is it put there?
 use files::appending::{End, append};
 use files::complaints::Complained;
-use finding::entries::say_found_of;
 use lines::refusals::{say_refused, say_waited};
 use lines::states::{Stated, say_ending, say_marking};
 use moves::{Asked, Entry, Marking, Move, Refusal, Step};
@@ -35,7 +34,7 @@ fn say_full(page: &mut Page, course: &Course) -> Answer {
 // The entry stands in no file, so that none is named.
 fn say_not(page: &mut Page, g: &Job, end: Ended, e: Stated, r: Refusal) -> Answer {
     let refused = say_refused(page, None, r);
-    say_found_of(page, g, e, moves::tell(r));
+    finding::entries::say_found(page, g, e, r);
     writeln!(page, "entry {}: {e}", end.entries);
     say_waited(page, r);
     say_marking(page, end.marking);

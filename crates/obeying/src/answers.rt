@@ -97,7 +97,7 @@ fn on_job<F: FnOnce(&mut Page, &Course) -> Result<Answer, Complained>>(
     match read.verdict {
         Verdict::Refused(r) => {
             let refused = say_refused(page, sheet.at, r);
-            flaws::sheets::say_found(page, sheet.bytes, moves::tell(r).number);
+            flaws::sheets::say_found(page, sheet.bytes, r);
             Ok(refused)
         }
         Verdict::Clear => {

@@ -101,7 +101,7 @@ impl Course<'_> {
 
     // What an entry meets of what the refusal speaks of.
     pub fn say_met(&self, page: &mut Page, e: Entry, r: Refusal) {
-        finding::entries::say_found(page, self.job, e, moves::tell(r));
+        finding::entries::say_found(page, self.job, Stated::from(e), r);
     }
 
     // A run that cannot start: 8 is the marking's, and there is no entry yet.
