@@ -44,11 +44,7 @@ fn test_target(rt: &HostRuntime, t: &Task) -> Result<(), Complained> {
     };
     let inputs = [t.first, t.second, t.third, t.from];
     if inputs.iter().any(|i| same_file(rt, t.target.at, *i)) {
-        return Err(complain_at(
-            rt,
-            out,
-            "is read by this call, and is not written over",
-        ));
+        return Err(complain_at(rt, out, "is read by this call, and is not written over"));
     }
     Ok(())
 }

@@ -74,6 +74,18 @@ pub fn entry_of(journal: Input, k: usize) -> Option<Entry> {
     }
 }
 
+// Numbers 11 to 15.
+fn is_of_entry(r: Refusal) -> bool {
+    matches!(
+        r,
+        Refusal::Unknown
+            | Refusal::NotHeld
+            | Refusal::NotOnStep
+            | Refusal::Excluded
+            | Refusal::Waits(_)
+    )
+}
+
 impl Course<'_> {
     pub fn run(&self) -> Result<Ended, Stopped> {
         told(journal::run(self.job, self.start, self.journal.bytes))
@@ -87,9 +99,8 @@ impl Course<'_> {
     fn named_by(&self, r: Refusal) -> Option<usize> {
         match r {
             Refusal::Length => self.journal.at,
-            Refusal::Unknown | Refusal::NotHeld | Refusal::NotOnStep => self.journal.at,
-            Refusal::Excluded | Refusal::Waits(_) => self.journal.at,
             Refusal::Outside => self.from,
+            _ if is_of_entry(r) => self.journal.at,
             _ => self.sheet,
         }
     }
@@ -128,9 +139,8 @@ impl Course<'_> {
     pub fn say_stopped(&self, page: &mut Page, s: Stopped) -> Answer {
         match s.refusal {
             Refusal::Length => say_unmeasured(page, self.journal, s.refusal),
-            Refusal::Unknown | Refusal::NotHeld | Refusal::NotOnStep => self.say_refused_at(page, s),
-            Refusal::Excluded | Refusal::Waits(_) => self.say_refused_at(page, s),
-            _ => self.say_refused(page, s.refusal),
+            r if is_of_entry(r) => self.say_refused_at(page, s),
+            r => self.say_refused(page, r),
         }
     }
 

@@ -42,7 +42,11 @@ pub fn say_actions(page: &mut Page, g: &Job) {
 }
 
 fn roles_of(g: &Job, action: u64) -> u64 {
-    if action < 64 { g[ALLOWS + action as usize] } else { 0 }
+    if action < 64 {
+        g[ALLOWS + action as usize]
+    } else {
+        0
+    }
 }
 
 // A step has the roles of its action.
@@ -50,7 +54,11 @@ fn say_step(page: &mut Page, g: &Job, s: u8, m: Marking)
     requires { s < 64 }
 {
     let action = g[LABELS + s as usize];
-    write!(page, "step {s}: action {action}, roles {}", Set(roles_of(g, action)));
+    write!(
+        page,
+        "step {s}: action {action}, roles {}",
+        Set(roles_of(g, action))
+    );
     if sets::has(m.included, s) {
         write!(page, ", included");
     } else {

@@ -99,7 +99,10 @@ fn say_walk(page: &mut Page, g: &Job) -> Answer {
         "\nA job of three steps: 0 reboot, 1 order check, 2 publish. "
     );
     writeln!(page, "After a reboot the order of the sensors is checked");
-    write!(page, "before anything is published. Person 0 is a climber, ");
+    write!(
+        page,
+        "before anything is published. Person 0 is a climber, "
+    );
     writeln!(
         page,
         "role 0; person 1 sits at the desk, role 1. At the start:"
