@@ -2,16 +2,16 @@
 ghost use Rattle.std.specs.Prelude.{◌<◌};
 
 use crate::whom::{Shown, choice_of, shown_to};
-use greying::Choice;
+use journal::Ended;
 use lines::display::Set;
 use lines::refusals::say_refused;
 use lines::states::{Stated, say_ending, say_marking};
 use moves::inner::waits;
-use moves::{Asked, Entry, Marking, Refusal, Step};
+use moves::{Entry, Marking, Refusal, Step};
 use output::page::Page;
 use output::status::Answer;
 use rules::{CONDITIONS, Job};
-use running::course::{Course, Ended};
+use running::course::Course;
 
 // The step stands first: the lines go step by step.
 fn say_may(page: &mut Page, e: Entry) {
@@ -28,9 +28,8 @@ impl Shown<'_> {
                 step: Step(s),
                 role,
             };
-            match rules::ask(self.job, self.marking, e) {
-                Asked::Allowed => say_may(page, e),
-                Asked::Refused(_) => {}
+            if rules::ask(self.job, self.marking, e).is_ok() {
+                say_may(page, e);
             }
         }
     }
@@ -108,8 +107,8 @@ fn say_nobody(page: &mut Page, g: &Job, m: Marking, person: Option<u64>, r: Refu
 fn may_at(page: &mut Page, g: &Job, end: Ended, person: Option<u64>) -> Answer {
     let m = end.marking;
     match choice_of(g, m, person) {
-        Choice::Steps(now) => say_shown(page, end.entries, shown_to(g, m, person, now)),
-        Choice::Refused(r) => say_nobody(page, g, m, person, r),
+        Ok(now) => say_shown(page, end.entries, shown_to(g, m, person, now)),
+        Err(r) => say_nobody(page, g, m, person, r),
     }
 }
 

@@ -1,13 +1,14 @@
 // One entry more behind a journal: is it allowed, and is it put there?
 use files::appending::{End, append};
 use files::complaints::Complained;
+use journal::Ended;
 use lines::refusals::{say_refused, say_waited};
 use lines::states::{Stated, say_ending, say_marking};
-use moves::{Asked, Entry, Marking, Move, Refusal, Step};
+use moves::{Entry, Marking, Refusal, Step};
 use output::page::Page;
 use output::status::Answer;
 use rules::Job;
-use running::course::{Course, Ended};
+use running::course::Course;
 
 // The most bytes that a journal may have: no entry more fits.
 const FULL: usize = 65535;
@@ -43,11 +44,11 @@ fn say_not(page: &mut Page, g: &Job, end: Ended, e: Stated, r: Refusal) -> Answe
 
 fn ask_at(page: &mut Page, g: &Job, end: Ended, e: Stated) -> Answer {
     match rules::ask(g, end.marking, entry_of(e)) {
-        Asked::Allowed => {
+        Ok(()) => {
             writeln!(page, "allowed: yes\nentry {}: {e}", end.entries);
             Answer::Answered
         }
-        Asked::Refused(r) => say_not(page, g, end, e, r),
+        Err(r) => say_not(page, g, end, e, r),
     }
 }
 
@@ -90,13 +91,13 @@ fn take_at(
 ) -> Result<Answer, Complained> {
     let entry = entry_of(e);
     match rules::take(course.job, end.marking, entry) {
-        Move::Moved(after) => {
+        Ok(after) => {
             let k = end.entries;
             let found = course.journal.at;
             keep(page, at, found.map(|_| 3 * u32::from(k)), entry)?;
             Ok(say_taken(page, course.job, after, k, e))
         }
-        Move::Refused(_, r) => Ok(say_not(page, course.job, end, e, r)),
+        Err(denied) => Ok(say_not(page, course.job, end, e, denied.refusal)),
     }
 }
 

@@ -1,6 +1,6 @@
 // The steps that are allowed to the people spoken of, as sets: to the person, or to all where none is named.
-use greying::{Choice, allowed_to, allowed_to_someone};
-use moves::Marking;
+use greying::{allowed_to, allowed_to_someone};
+use moves::{Marking, Refusal};
 use rules::Job;
 use running::markings::all_done;
 use std::array;
@@ -16,24 +16,17 @@ pub struct Shown<'a> {
     pub to: [u64; 16],
 }
 
-pub fn choice_of(g: &Job, m: Marking, person: Option<u64>) -> Choice {
+pub fn choice_of(g: &Job, m: Marking, person: Option<u64>) -> Result<u64, Refusal> {
     match person {
         Some(p) => allowed_to(g, m, p),
         None => allowed_to_someone(g, m),
     }
 }
 
-fn steps_in(c: Choice) -> u64 {
-    match c {
-        Choice::Steps(steps) => steps,
-        Choice::Refused(_) => 0,
-    }
-}
-
 // None where p is not spoken of.
 fn steps_to(g: &Job, m: Marking, person: Option<u64>, p: u64) -> u64 {
     if person.is_none_or(|named| named == p) {
-        steps_in(allowed_to(g, m, p))
+        allowed_to(g, m, p).unwrap_or(0)
     } else {
         0
     }
@@ -46,7 +39,7 @@ pub fn shown_to(g: &Job, m: Marking, person: Option<u64>, now: u64) -> Shown<'_>
         marking: m,
         person,
         now,
-        held: steps_in(choice_of(g, all_done(g), person)),
+        held: choice_of(g, all_done(g), person).unwrap_or(0),
         to: array::from_fn(|p| steps_to(g, m, person, p as u64)),
     }
 }

@@ -5,11 +5,11 @@
 use events::Event;
 use events::Event::{Distrust, Give, Prescribe, Sign};
 use graphs::{START_A, START_B};
-use moves::{Marking, Move};
+use moves::{Denied, Marking};
 use output::page::Page;
 use rules::Job;
 use show::{say_marking, say_track};
-use tracker::{Track, Tracked};
+use tracker::{Track, Unmoved};
 
 mod events;
 mod graphs;
@@ -19,12 +19,17 @@ mod show;
 fn act(page: &mut Page, g: &Job, m: Marking, e: Event) -> Marking {
     write!(page, "{e}");
     match rules::take(g, m, e.entry()) {
-        Move::Moved(next) => {
+        Ok(next) => {
             writeln!(page);
             say_marking(page, g, next);
             next
         }
-        Move::Refused(before, _) => {
+        Err(
+            Denied {
+                marking: before,
+                ..
+            },
+        ) => {
             writeln!(page, ": refused");
             before
         }
@@ -56,15 +61,15 @@ const FIGURE_5B: [Event; 5] = [Prescribe, Sign, Distrust, Sign, Give];
 fn track(page: &mut Page, g: &Job, t: Track, e: Event) -> Track {
     write!(page, "{e}");
     match tracker::advance(g, t, e.entry()) {
-        Tracked::At(next) => {
+        Ok(next) => {
             say_track(page, next);
             next
         }
-        Tracked::Stays(before, _) => {
+        Err(Unmoved::Stays(before, _)) => {
             writeln!(page, ": refused");
             before
         }
-        Tracked::Refused(_) => {
+        Err(Unmoved::Refused(_)) => {
             writeln!(page, ": refused");
             t
         }
@@ -75,7 +80,7 @@ fn track(page: &mut Page, g: &Job, t: Track, e: Event) -> Track {
 // S9, whose flag is down. From S11 it is the other way round: give medicine leads to S16 with the flag up, sign to S12 with the flag down.
 fn figure_6(page: &mut Page, g: &Job) {
     write!(page, "\nFig. 6\nstart");
-    let Tracked::At(start) = tracker::start(g, START_A) else {
+    let Ok(start) = tracker::start(g, START_A) else {
         writeln!(page, ": refused");
         return;
     };

@@ -7,7 +7,7 @@ use files::complaints::{Complained, complain_of};
 use files::writing::Target;
 use lines::refusals::say_refused;
 use lines::states::say_marking;
-use moves::{Marking, Verdict};
+use moves::Marking;
 use output::page::Page;
 use output::status::Answer;
 use rules::WORDS;
@@ -73,11 +73,11 @@ fn help(page: &mut Page, at: Option<usize>) -> Result<Answer, Complained> {
     }
 }
 
-// The marking of --from, or else the sheet's first.
-fn start_of(rt: &HostRuntime, from: Input, first: Marking) -> Result<Marking, Complained> {
+// The marking of --from; none where the sheet's first is the start.
+fn named_start(rt: &HostRuntime, from: Input) -> Result<Option<Marking>, Complained> {
     match from.at {
-        Some(_) => marking_in(rt, from),
-        None => Ok(first),
+        Some(_) => Ok(Some(marking_in(rt, from)?)),
+        None => Ok(None),
     }
 }
 
@@ -92,19 +92,18 @@ fn on_job<F: FnOnce(&mut Page, &Course) -> Result<Answer, Complained>>(
 {
     let sheet = inputs.first;
     let mut g = [0u64; WORDS];
-    let read = sheet::read(sheet.bytes, &mut g);
-    let start = start_of(&page.rt(), inputs.from, read.first)?;
-    match read.verdict {
-        Verdict::Refused(r) => {
+    let start = named_start(&page.rt(), inputs.from)?;
+    match sheet::read(sheet.bytes, &mut g) {
+        Err(r) => {
             let refused = say_refused(page, sheet.at, r);
             flaws::sheets::say_found(page, sheet.bytes, r);
             Ok(refused)
         }
-        Verdict::Clear => {
+        Ok(first) => {
             let course = Course {
                 job: &g,
                 sheet: sheet.at,
-                start,
+                start: start.unwrap_or(first),
                 from: inputs.from.at,
                 journal,
             };

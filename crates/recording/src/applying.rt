@@ -1,13 +1,14 @@
 // Records applied to a marking.
 use files::complaints::Complained;
 use files::writing::Target;
+use journal::Stopped;
 use lines::refusals::say_refused;
 use lines::states::say_marking;
-use moves::{Marking, Refusal};
+use moves::{Denied, Marking, Refusal};
 use output::page::Page;
 use output::status::Answer;
-use records::{Applied, Record, Recorded};
-use running::course::{Course, Input, Stopped, measured, say_unmeasured, told};
+use records::Record;
+use running::course::{Course, Input, measured, say_unmeasured};
 use running::markings::{keep_marking, say_kept};
 use running::runs::say_ended;
 
@@ -19,16 +20,10 @@ fn say_given(page: &mut Page, m: Marking, t: Target) -> Result<Answer, Complaine
 }
 
 // 16 gives back the marking that was handed in; argument `at` names the record.
-fn say_unapplied(
-    page: &mut Page,
-    at: Option<usize>,
-    record: Record,
-    m: Marking,
-    r: Refusal,
-) -> Answer {
-    let refused = say_refused(page, at, r);
-    finding::recorded::say_unapplied(page, record, m);
-    say_marking(page, m);
+fn say_unapplied(page: &mut Page, at: Option<usize>, record: Record, denied: Denied) -> Answer {
+    let refused = say_refused(page, at, denied.refusal);
+    finding::recorded::say_unapplied(page, record, denied.marking);
+    say_marking(page, denied.marking);
     refused
 }
 
@@ -47,11 +42,11 @@ fn apply_read(
     t: Target,
 ) -> Result<Answer, Complained> {
     match spelling::read(n, record.bytes) {
-        Recorded::Made(read) => match read.apply(m, n) {
-            Applied::Gives(after) => say_given(page, after, t),
-            Applied::Refused(before, r) => Ok(say_unapplied(page, record.at, read, before, r)),
+        Ok(read) => match read.apply(m, n) {
+            Ok(after) => say_given(page, after, t),
+            Err(denied) => Ok(say_unapplied(page, record.at, read, denied)),
         },
-        Recorded::Refused(r) => Ok(say_ill_formed(page, n, record, r)),
+        Err(r) => Ok(say_ill_formed(page, n, record, r)),
     }
 }
 
@@ -81,8 +76,8 @@ pub fn apply(
     t: Target,
 ) -> Result<Answer, Complained> {
     match Record::IDENTITY.apply(m, n) {
-        Applied::Gives(_) => apply_read(page, n, record, m, t),
-        Applied::Refused(_, r) => Ok(say_unfit(page, n, m, at, r)),
+        Ok(_) => apply_read(page, n, record, m, t),
+        Err(denied) => Ok(say_unfit(page, n, m, at, denied.refusal)),
     }
 }
 
@@ -95,7 +90,15 @@ fn say_unrestored(
     s: Stopped,
 ) -> Answer {
     match s.refusal {
-        Refusal::NotApplied => say_unapplied(page, at, record, s.marking, s.refusal),
+        Refusal::NotApplied => say_unapplied(
+            page,
+            at,
+            record,
+            Denied {
+                marking: s.marking,
+                refusal: s.refusal,
+            },
+        ),
         _ => course.say_stopped(page, s),
     }
 }
@@ -112,10 +115,10 @@ pub fn restore(
     }
     let g = course.job;
     let read = match spelling::read(g[0], record.bytes) {
-        Recorded::Made(read) => read,
-        Recorded::Refused(r) => return Ok(say_ill_formed(page, g[0], record, r)),
+        Ok(read) => read,
+        Err(r) => return Ok(say_ill_formed(page, g[0], record, r)),
     };
-    match told(folding::restore(g, read, course.journal.bytes, course.start)) {
+    match folding::restore(g, read, course.journal.bytes, course.start) {
         Ok(end) => say_ended(page, g, end, t),
         Err(stopped) => Ok(say_unrestored(page, course, record.at, read, stopped)),
     }

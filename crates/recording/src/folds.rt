@@ -5,18 +5,18 @@ use files::complaints::Complained;
 use files::writing::{Target, store_to};
 use lines::refusals::say_refused;
 use lines::states::say_record;
-use moves::{Refusal, Verdict};
+use moves::Refusal;
 use output::page::Page;
 use output::status::Answer;
-use records::{Record, Recorded};
+use records::Record;
 use running::course::{Course, Input};
 
 // The record of n steps to its file, and then its lines.
 fn keep_record(page: &mut Page, n: u64, r: Record, t: Target) -> Result<Answer, Complained> {
     let mut room = [0u8; 65];
     match spelling::write(n, r, &mut room) {
-        Verdict::Refused(refusal) => Ok(say_refused(page, None, refusal)),
-        Verdict::Clear => {
+        Err(refusal) => Ok(say_refused(page, None, refusal)),
+        Ok(()) => {
             store_to(&page.rt(), t, &room)?;
             say_record(page, r);
             writeln!(page, "wrote: 65 bytes");
@@ -41,9 +41,9 @@ pub fn fold(
     never: bool,
 ) -> Result<Answer, Complained> {
     match folding::fold(course.job, course.journal.bytes) {
-        Recorded::Made(r) if r.never & !never => Err(say_never(page, course)),
-        Recorded::Made(r) => keep_record(page, course.job[0], r, t),
-        Recorded::Refused(r) => Ok(say_unfolded(page, course, r)),
+        Ok(r) if r.never & !never => Err(say_never(page, course)),
+        Ok(r) => keep_record(page, course.job[0], r, t),
+        Err(r) => Ok(say_unfolded(page, course, r)),
     }
 }
 
@@ -59,13 +59,6 @@ fn say_unread(page: &mut Page, n: u64, record: Input, r: Refusal) -> Answer {
     }
 }
 
-fn say_joined(page: &mut Page, n: u64, o: Recorded, t: Target) -> Result<Answer, Complained> {
-    match o {
-        Recorded::Made(r) => keep_record(page, n, r, t),
-        Recorded::Refused(r) => Ok(say_refused(page, None, r)),
-    }
-}
-
 pub fn join(
     page: &mut Page,
     n: u64,
@@ -74,10 +67,13 @@ pub fn join(
     t: Target,
 ) -> Result<Answer, Complained> {
     match spelling::read(n, first.bytes) {
-        Recorded::Refused(r) => Ok(say_unread(page, n, first, r)),
-        Recorded::Made(before) => match spelling::read(n, second.bytes) {
-            Recorded::Refused(r) => Ok(say_unread(page, n, second, r)),
-            Recorded::Made(after) => say_joined(page, n, before.join(after, n), t),
+        Err(r) => Ok(say_unread(page, n, first, r)),
+        Ok(before) => match spelling::read(n, second.bytes) {
+            Err(r) => Ok(say_unread(page, n, second, r)),
+            Ok(after) => match before.join(after, n) {
+                Ok(r) => keep_record(page, n, r, t),
+                Err(r) => Ok(say_refused(page, None, r)),
+            },
         },
     }
 }
@@ -85,10 +81,10 @@ pub fn join(
 // A record does not hold its number of steps: it is read for 64.
 pub fn show(page: &mut Page, record: Input) -> Answer {
     match spelling::read(64, record.bytes) {
-        Recorded::Made(r) => {
+        Ok(r) => {
             say_record(page, r);
             Answer::Answered
         }
-        Recorded::Refused(r) => say_ill_formed(page, 64, record, r),
+        Err(r) => say_ill_formed(page, 64, record, r),
     }
 }

@@ -1,11 +1,12 @@
 // Why a journal can never pass.
 use files::complaints::{Complained, complain};
+use journal::Stopped;
 use lines::refusals::words;
 use lines::states::Stated;
 use moves::{Refusal, Step};
 use output::page::Page;
 use rules::{EXCLUDES, Job};
-use running::course::{Course, Stopped};
+use running::course::Course;
 use running::markings::all_done;
 use std::convert::From;
 

@@ -34,13 +34,15 @@ fn say_ends(page: &mut Page, markings: u64, o: Ends) -> Answer {
             );
             Answer::Answered
         }
-        Ends::Refused(r) => say_refused(page, None, r),
     }
 }
 
 // From marking m, with a store for that many markings.
 pub fn say_from(page: &mut Page, g: &Job, m: Marking, markings: u64) -> Answer {
-    say_ends(page, markings, searched(g, m, markings))
+    match searched(g, m, markings) {
+        Ok(o) => say_ends(page, markings, o),
+        Err(r) => say_refused(page, None, r),
+    }
 }
 
 // The store is in no file.
@@ -53,11 +55,12 @@ fn say_unsearched(page: &mut Page, m: Marking, markings: u64, r: Refusal) -> Ans
 
 // From marking m, where a journal of that many entries has ended.
 pub fn say_after(page: &mut Page, g: &Job, m: Marking, entries: u16, markings: u64) -> Answer {
-    let o = searched(g, m, markings);
-    if let Ends::Refused(r) = o {
-        return say_unsearched(page, m, markings, r);
+    match searched(g, m, markings) {
+        Ok(o) => {
+            writeln!(page, "entries: {entries}");
+            say_marking(page, m);
+            say_ends(page, markings, o)
+        }
+        Err(r) => say_unsearched(page, m, markings, r),
     }
-    writeln!(page, "entries: {entries}");
-    say_marking(page, m);
-    say_ends(page, markings, o)
 }

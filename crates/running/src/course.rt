@@ -1,5 +1,5 @@
 // A job, the marking to start at and the journal that is run from there, with the arguments of the call that name them.
-use journal::{Ran, Walked};
+use journal::{Ended, Stopped};
 use lines::refusals::{say_refused, say_waited};
 use lines::states::{Stated, say_marking};
 use moves::{Entry, Marking, Refusal};
@@ -25,38 +25,10 @@ pub struct Course<'a> {
     pub journal: Input<'a>,
 }
 
-// All entries have passed: the marking after them, and their number.
-#[derive(Clone, Copy)]
-pub struct Ended {
-    pub marking: Marking,
-    pub entries: u16,
-}
-
-// The index of the entry that is refused, and the marking before it.
-#[derive(Clone, Copy)]
-pub struct Stopped {
-    pub index: u16,
-    pub marking: Marking,
-    pub refusal: Refusal,
-}
-
-pub fn told(o: Ran) -> Result<Ended, Stopped> {
-    match o {
-        Ran::Ended(marking, entries) => Ok(Ended { marking, entries }),
-        Ran::Stopped(index, marking, refusal) => Err(Stopped {
-            index,
-            marking,
-            refusal,
-        }),
-    }
-}
-
 // Has the journal the length of one? Refusal 7.
 pub fn measured(journal: Input) -> Result<(), Refusal> {
-    match journal::walk_at(journal.bytes, 0).said {
-        Walked::Refused(r) => Err(r),
-        _ => Ok(()),
-    }
+    journal::walk_at(journal.bytes, 0).said?;
+    Ok(())
 }
 
 // A journal that has not the length of one.
@@ -68,10 +40,7 @@ pub fn say_unmeasured(page: &mut Page, journal: Input, r: Refusal) -> Answer {
 
 // Entry k of a journal.
 pub fn entry_of(journal: Input, k: usize) -> Option<Entry> {
-    match journal::walk_at(journal.bytes, k).said {
-        Walked::At(e) => Some(e),
-        _ => None,
-    }
+    journal::walk_at(journal.bytes, k).said.ok()?
 }
 
 // Numbers 11 to 15.
@@ -88,7 +57,7 @@ fn is_of_entry(r: Refusal) -> bool {
 
 impl Course<'_> {
     pub fn run(&self) -> Result<Ended, Stopped> {
-        told(journal::run(self.job, self.start, self.journal.bytes))
+        journal::run(self.job, self.start, self.journal.bytes)
     }
 
     pub fn entry(&self, k: usize) -> Option<Entry> {

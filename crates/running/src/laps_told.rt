@@ -1,6 +1,6 @@
 // A stem, then a lap without end.
 use crate::course::{Course, Input, measured, say_unmeasured};
-use laps::{Lapped, Pass};
+use laps::{Broken, Endless, Pass};
 use lines::refusals::{say_refused, say_waited};
 use lines::states::Stated;
 use moves::Refusal;
@@ -63,16 +63,16 @@ fn around<'a>(stem: &Course<'a>, lap: Input<'a>) -> Course<'a> {
 // The journal is the stem.
 pub fn lap(page: &mut Page, stem: &Course, lap: Input) -> Answer {
     match laps::lap(stem.job, stem.start, stem.journal.bytes, lap.bytes) {
-        Lapped::Accepted => {
+        Ok(Endless::Accepted) => {
             writeln!(page, "verdict: accepted");
             Answer::Answered
         }
-        Lapped::Starved(step) => {
+        Ok(Endless::Starved(step)) => {
             writeln!(page, "verdict: starved\nstarved step: {}", step.0);
             Answer::No
         }
-        Lapped::Refused(r) => say_unlapped(page, stem, lap, r),
-        Lapped::Stopped(k, Pass::Stem, r) => say_halt(page, stem, k, Pass::Stem, r),
-        Lapped::Stopped(k, p, r) => say_halt(page, &around(stem, lap), k, p, r),
+        Err(Broken::Refused(r)) => say_unlapped(page, stem, lap, r),
+        Err(Broken::Stopped(k, Pass::Stem, r)) => say_halt(page, stem, k, Pass::Stem, r),
+        Err(Broken::Stopped(k, p, r)) => say_halt(page, &around(stem, lap), k, p, r),
     }
 }

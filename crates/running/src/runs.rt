@@ -1,8 +1,9 @@
 // Journals run from a marking.
-use crate::course::{Course, Ended};
+use crate::course::Course;
 use crate::markings::{keep_marking, say_kept};
 use files::complaints::Complained;
 use files::writing::Target;
+use journal::Ended;
 use lines::states::{say_ending, say_marking};
 use output::page::Page;
 use output::status::Answer;

@@ -6,7 +6,7 @@ use lines::states::{Stated, say_marking};
 use output::page::Page;
 use output::status::Answer;
 use std::convert::From;
-use tracker::{Track, Tracked};
+use tracker::{Track, Unmoved};
 
 fn say_place(page: &mut Page, t: Track) {
     writeln!(page, "rank {}, flag {}", t.rank.0, Flag(t.flag));
@@ -18,12 +18,12 @@ fn advanced(page: &mut Page, course: &Course, t: Track, k: usize) -> Result<Trac
         return Ok(t);
     };
     match tracker::advance(course.job, t, e) {
-        Tracked::At(next) => {
+        Ok(next) => {
             write!(page, "entry {k}: {}, ", Stated::from(e));
             say_place(page, next);
             Ok(next)
         }
-        Tracked::Stays(before, r) => {
+        Err(Unmoved::Stays(before, r)) => {
             course.say_refused(page, r);
             course.say_met(page, e, r);
             writeln!(page, "entry {k}: {}", Stated::from(e));
@@ -32,7 +32,7 @@ fn advanced(page: &mut Page, course: &Course, t: Track, k: usize) -> Result<Trac
             writeln!(page, "flag: {}", Flag(before.flag));
             Err(before)
         }
-        Tracked::Refused(r) => {
+        Err(Unmoved::Refused(r)) => {
             course.say_refused(page, r);
             Err(t)
         }
@@ -68,8 +68,7 @@ pub fn track(page: &mut Page, course: &Course) -> Answer {
         return say_unmeasured(page, course.journal, r);
     }
     match tracker::start(course.job, course.start) {
-        Tracked::At(start) => say_tracked(page, course, start),
-        Tracked::Stays(_, r) => course.say_unstarted(page, r),
-        Tracked::Refused(r) => course.say_unstarted(page, r),
+        Ok(start) => say_tracked(page, course, start),
+        Err(Unmoved::Stays(_, r) | Unmoved::Refused(r)) => course.say_unstarted(page, r),
     }
 }

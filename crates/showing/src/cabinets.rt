@@ -6,7 +6,6 @@ use lines::refusals::say_refused;
 use moves::Refusal;
 use output::page::Page;
 use output::status::Answer;
-use sheet::Written;
 
 // The number of arms is in no file.
 fn say_unwritten(page: &mut Page, arms: u64, r: Refusal) -> Answer {
@@ -18,7 +17,7 @@ fn say_unwritten(page: &mut Page, arms: u64, r: Refusal) -> Answer {
 pub fn write(page: &mut Page, arms: u64, t: Target) -> Result<Answer, Complained> {
     let mut room = [0u8; 65536];
     match cabinet::write(arms, &mut room) {
-        Written::Length(n) => keep(page, front(&room, n), t),
-        Written::Refused(r) => Ok(say_unwritten(page, arms, r)),
+        Ok(n) => keep(page, front(&room, n), t),
+        Err(r) => Ok(say_unwritten(page, arms, r)),
     }
 }

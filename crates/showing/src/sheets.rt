@@ -8,7 +8,6 @@ use moves::Marking;
 use output::page::Page;
 use output::status::Answer;
 use rules::Job;
-use sheet::Written;
 
 pub fn check(page: &mut Page, g: &Job) -> Answer {
     writeln!(page, "sheet: ok");
@@ -44,7 +43,7 @@ pub fn write(
 ) -> Result<Answer, Complained> {
     let mut room = [0u8; 65536];
     match sheet::write(g, m, &mut room) {
-        Written::Length(n) => keep(page, front(&room, n), t),
-        Written::Refused(r) => Ok(say_refused(page, at, r)),
+        Ok(n) => keep(page, front(&room, n), t),
+        Err(r) => Ok(say_refused(page, at, r)),
     }
 }

@@ -7,7 +7,6 @@ use files::writing::{front, store};
 use lines::refusals::say_refused;
 use output::page::Page;
 use rules::Job;
-use sheet::Written;
 use std::fs;
 use std::io::ErrorKind;
 
@@ -36,8 +35,8 @@ impl Folder<'_> {
     fn store_sheet(self, page: &mut Page, g: &Job) -> Result<(), Complained> {
         let mut room = [0u8; 128];
         match sheet::write(g, START, &mut room) {
-            Written::Length(n) => self.store(page, "job.sheet", front(&room, n)),
-            Written::Refused(r) => {
+            Ok(n) => self.store(page, "job.sheet", front(&room, n)),
+            Err(r) => {
                 say_refused(page, None, r);
                 Err(Complained)
             }

@@ -2,13 +2,13 @@
 use crate::job::{CHECK, PUBLISH, REBOOT, START, job, rewritten, role_name, step_name};
 use crate::parts::Folder;
 use files::complaints::Complained;
-use journal::Ran;
+use journal::Stopped;
 use lines::refusals::{Numbered, say_refused};
 use lines::states::{say_ending, say_marking, say_record};
-use moves::{Entry, Marking, Move, Step};
+use moves::{Denied, Entry, Marking, Step};
 use output::page::Page;
 use output::status::Answer;
-use records::{Record, Recorded};
+use records::Record;
 use reporting::ends::say_from;
 use reporting::search::MOST;
 use rules::Job;
@@ -34,14 +34,14 @@ fn tried(page: &mut Page, g: &Job, m: Marking, who: [u8; 3]) -> Marking {
     };
     say_wish(page, e);
     match rules::take(g, m, e) {
-        Move::Moved(next) => {
+        Ok(next) => {
             writeln!(page, "allowed");
             say_state(page, g, next);
             next
         }
-        Move::Refused(before, r) => {
-            writeln!(page, "not allowed: {}", Numbered(r));
-            before
+        Err(Denied { marking, refusal }) => {
+            writeln!(page, "not allowed: {}", Numbered(refusal));
+            marking
         }
     }
 }
@@ -88,8 +88,8 @@ fn start_again(page: &mut Page, g: &Job, r: Record) -> Answer {
         "\nThe cabinet forgets the journal and starts again from the record:"
     );
     match folding::restore(g, r, b"", START) {
-        Ran::Ended(m, _) => go_on(page, g, m),
-        Ran::Stopped(_, _, refusal) => say_refused(page, None, refusal),
+        Ok(end) => go_on(page, g, end.marking),
+        Err(Stopped { refusal, .. }) => say_refused(page, None, refusal),
     }
 }
 
@@ -115,8 +115,8 @@ fn say_walk(page: &mut Page, g: &Job) -> Answer {
         "\nThe journal so far, one entry, is folded into a record of 65 bytes:"
     );
     match folding::fold(g, &REBOOT) {
-        Recorded::Made(r) => start_again(page, g, r),
-        Recorded::Refused(r) => say_refused(page, None, r),
+        Ok(r) => start_again(page, g, r),
+        Err(r) => say_refused(page, None, r),
     }
 }
 
