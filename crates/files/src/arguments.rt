@@ -150,6 +150,7 @@ impl Call {
     }
 }
 
+// Word by word by its place: std's `env::args` puts each word on the heap.
 pub fn called(rt: &HostRuntime) -> Call {
     let mut call = Call::default();
     for i in 1..usize::MAX {
