@@ -3,10 +3,10 @@ use Rattle.std.specs.Prelude.{ℕ, ◌≡◌, refl, List, Bool, true, false, con
 use mir.Val.{bool_byte}
 use Rattle.sets.specs.Truth.{and_false}
 use Rattle.moves.specs.declared.Marking.{Marking}
-use Rattle.moves.specs.First.{Verdict}
-use Rattle.sheet.specs.Sheet.{if_clear}
+use Rattle.moves.specs.First.{Verdict, number_of_verdict}
+use Rattle.sheet.specs.Sheet.{answer_of, if_clear}
 use Rattle.records.specs.Records.{each, well_formed}
-use Rattle.answers.specs.Lent.{marking_words}
+use Rattle.answers.specs.Lent.{marking_words, number_of_read, marking_out}
 use Rattle.answers.specs.Folded.{spoilt}
 use Rattle.std.specs.Prelude.{Ok, Err}
 
@@ -26,3 +26,15 @@ pub clear_twice : (v : Verdict) (m z : Marking) (before : List ℕ)
 unfolding if_clear
 clear_twice (Ok _) m z before = refl
 clear_twice (Err r) m z before = refl
+
+-- what reading a sheet answers has the number of what is against it
+pub read_number : (v : Verdict) (m : Marking) → number_of_read (answer_of v m) ≡ number_of_verdict v
+unfolding number_of_read answer_of number_of_verdict
+read_number (Ok _) m = refl
+read_number (Err r) m = refl
+
+-- and lays its marking down where nothing is
+pub read_marking : (v : Verdict) (m : Marking) (before : List ℕ) → marking_out (answer_of v m) before ≡ if_clear v (marking_words m) before
+unfolding marking_out answer_of if_clear
+read_marking (Ok _) m before = refl
+read_marking (Err r) m before = refl

@@ -4,7 +4,8 @@ ghost use Rattle.records.specs.Answers.{number_of_recorded};
 ghost use Rattle.answers.specs.Folded.{record_in, record_of, record_words, bytes_out, words_out};
 
 use crate::told::said;
-use records::{Record, Recorded};
+use moves::Refusal;
+use records::Record;
 
 // What stands in for bytes or words that spell no record: never is on beside a set, so that it is well-formed for no n.
 const SPOILT: Record = Record {
@@ -51,16 +52,16 @@ pub fn record_of(words: &[u64; 9]) -> Record
     }
 }
 
-pub fn spell(o: Recorded, bytes: &mut [u8; 65]) -> u64
+pub fn spell(o: Result<Record, Refusal>, bytes: &mut [u8; 65]) -> u64
     ensures value { result ≡ number_of_recorded o }
     ensures bytes_after { bytes.new ≡ bytes_out o bytes.old }
 {
     match o {
-        Recorded::Made(r) => {
+        Ok(r) => {
             spelling::inner::spell(r, bytes);
             0
         }
-        Recorded::Refused(r) => said(r).number,
+        Err(r) => said(r).number,
     }
 }
 
@@ -80,15 +81,16 @@ fn lay(r: Record, words: &mut [u64; 9])
     ];
 }
 
-pub fn spread(o: Recorded, words: &mut [u64; 9]) -> u64
+#[tactic(auto, unfolding(records::specs::Answers::number_of_recorded, crate::specs::Folded::words_out))]
+pub fn spread(o: Result<Record, Refusal>, words: &mut [u64; 9]) -> u64
     ensures value { result ≡ number_of_recorded o }
     ensures words_after { words.new ≡ words_out o words.old }
 {
     match o {
-        Recorded::Made(r) => {
+        Ok(r) => {
             lay(r, words);
             0
         }
-        Recorded::Refused(r) => said(r).number,
+        Err(r) => said(r).number,
     }
 }

@@ -11,9 +11,8 @@ ghost use Rattle.sheet.specs.Sheet.{number_of_written, length_of_written};
 ghost use Rattle.answers.specs.Values.{finished_of_ending, ended_of_walked, length_of_spelling};
 
 use crate::{Allowed, Asked, Ending, Moved, Ran, Walked, Written};
-use greying::Choice;
-use moves::{Entry, Move, Refusal, Step, Verdict};
-use records::Applied;
+use journal::{Ended, Stopped};
+use moves::{Denied, Entry, Marking, Refusal, Step};
 
 const NOBODY: Entry = Entry {
     person: 0,
@@ -28,56 +27,59 @@ pub struct Words {
     pub waiting: u64,
 }
 
+// The answers are told by functions, not by `From`: `moved` and `applied` go from one type to another and say different things.
 pub fn said(r: Refusal) -> Words
     ensures number_value { result.number ≡ number_of r }
     ensures waiting_value { result.waiting ≡ waiting_of r }
 {
-    let t = moves::tell(r);
     Words {
-        number: t.number as u64,
-        waiting: t.waiting,
+        number: r.number() as u64,
+        waiting: r.waiting(),
     }
 }
 
-pub fn verdict(v: Verdict) -> u64
+#[tactic(auto, unfolding(moves::specs::First::number_of_verdict))]
+pub fn verdict(v: Result<(), Refusal>) -> u64
     ensures { result ≡ number_of_verdict v }
 {
     match v {
-        Verdict::Clear => 0,
-        Verdict::Refused(r) => said(r).number,
+        Ok(()) => 0,
+        Err(r) => said(r).number,
     }
 }
 
-pub fn ending(o: rules::Ending) -> Ending
+#[tactic(auto, unfolding(rules::specs::Answers::number_of_ending, crate::specs::Values::finished_of_ending))]
+pub fn ending(o: Result<rules::Ending, Refusal>) -> Ending
     ensures number_value { result.number ≡ number_of_ending o }
     ensures finished_value { result.finished ≡ finished_of_ending o }
 {
     match o {
-        rules::Ending::Finished => Ending {
+        Ok(rules::Ending::Finished) => Ending {
             number: 0,
             finished: 1,
         },
-        rules::Ending::Open => Ending {
+        Ok(rules::Ending::Open) => Ending {
             number: 0,
             finished: 0,
         },
-        rules::Ending::Refused(r) => Ending {
+        Err(r) => Ending {
             number: said(r).number,
             finished: 0,
         },
     }
 }
 
-pub fn asked(o: moves::Asked) -> Asked
+#[tactic(auto, unfolding(moves::specs::Move::number_of_asked, moves::specs::Move::waiting_of_asked))]
+pub fn asked(o: Result<(), Refusal>) -> Asked
     ensures number_value { result.number ≡ number_of_asked o }
     ensures waiting_value { result.waiting ≡ waiting_of_asked o }
 {
     match o {
-        moves::Asked::Allowed => Asked {
+        Ok(()) => Asked {
             number: 0,
             waiting: 0,
         },
-        moves::Asked::Refused(r) => {
+        Err(r) => {
             let w = said(r);
             Asked {
                 number: w.number,
@@ -87,105 +89,107 @@ pub fn asked(o: moves::Asked) -> Asked
     }
 }
 
-pub fn allowed(o: Choice) -> Allowed
+#[tactic(auto, unfolding(greying::specs::Greying::number_of_choice, greying::specs::Greying::steps_of_choice))]
+pub fn allowed(o: Result<u64, Refusal>) -> Allowed
     ensures number_value { result.number ≡ number_of_choice o }
     ensures steps_value { result.steps ≡ steps_of_choice o }
 {
     match o {
-        Choice::Steps(x) => Allowed {
-            number: 0,
-            steps: x,
-        },
-        Choice::Refused(r) => Allowed {
+        Ok(steps) => Allowed { number: 0, steps },
+        Err(r) => Allowed {
             number: said(r).number,
             steps: 0,
         },
     }
 }
 
-pub fn moved(o: Move) -> Moved
+#[tactic(auto, unfolding(moves::specs::Move::number_of_move, moves::specs::Move::waiting_of_move, moves::specs::Move::marking_of_move))]
+pub fn moved(o: Result<Marking, Denied>) -> Moved
     ensures number_value { result.number ≡ number_of_move o }
     ensures waiting_value { result.waiting ≡ waiting_of_move o }
     ensures marking_value { result.marking ≡ marking_of_move o }
 {
     match o {
-        Move::Moved(next) => Moved {
+        Ok(next) => Moved {
             number: 0,
             waiting: 0,
             marking: next,
         },
-        Move::Refused(m, r) => {
-            let w = said(r);
+        Err(d) => {
+            let w = said(d.refusal);
             Moved {
                 number: w.number,
                 waiting: w.waiting,
-                marking: m,
+                marking: d.marking,
             }
         }
     }
 }
 
-pub fn applied(o: Applied) -> Moved
+#[tactic(auto, unfolding(records::specs::Answers::number_of_applied, records::specs::Answers::marking_of_applied))]
+pub fn applied(o: Result<Marking, Denied>) -> Moved
     ensures number_value { result.number ≡ number_of_applied o }
     ensures waiting_value { result.waiting ≡ 0 }
     ensures marking_value { result.marking ≡ marking_of_applied o }
 {
     match o {
-        Applied::Gives(next) => Moved {
+        Ok(next) => Moved {
             number: 0,
             waiting: 0,
             marking: next,
         },
-        Applied::Refused(m, r) => Moved {
-            number: said(r).number,
+        Err(d) => Moved {
+            number: said(d.refusal).number,
             waiting: 0,
-            marking: m,
+            marking: d.marking,
         },
     }
 }
 
-pub fn ran(o: journal::Ran) -> Ran
+#[tactic(auto, unfolding(journal::specs::Run::number_of_run, journal::specs::Run::waiting_of_run, journal::specs::Run::index_of_run, journal::specs::Run::marking_of_run))]
+pub fn ran(o: Result<Ended, Stopped>) -> Ran
     ensures number_value { result.number ≡ number_of_run o }
     ensures waiting_value { result.waiting ≡ waiting_of_run o }
     ensures entries_value { result.entries ≡ index_of_run o }
     ensures marking_value { result.marking ≡ marking_of_run o }
 {
     match o {
-        journal::Ran::Ended(end, count) => Ran {
+        Ok(end) => Ran {
             number: 0,
             waiting: 0,
-            entries: count as u64,
-            marking: end,
+            entries: end.entries as u64,
+            marking: end.marking,
         },
-        journal::Ran::Stopped(index, before, r) => {
-            let w = said(r);
+        Err(stop) => {
+            let w = said(stop.refusal);
             Ran {
                 number: w.number,
                 waiting: w.waiting,
-                entries: index as u64,
-                marking: before,
+                entries: stop.index as u64,
+                marking: stop.marking,
             }
         }
     }
 }
 
-pub fn walked(o: journal::Walked) -> Walked
+#[tactic(auto, unfolding(journal::specs::Walk::number_of_walked, crate::specs::Values::ended_of_walked, journal::specs::Walk::entry_of_walked))]
+pub fn walked(o: Result<Option<Entry>, Refusal>) -> Walked
     ensures number_value { result.number ≡ number_of_walked o }
     ensures ended_value { result.ended ≡ ended_of_walked o }
     ensures result_value { result.entry ≡ entry_of_walked o }
 {
     match o {
-        journal::Walked::At(e) => Walked {
+        Ok(Some(entry)) => Walked {
             number: 0,
             ended: 0,
-            entry: e,
+            entry,
         },
-        journal::Walked::End => Walked {
+        Ok(None) => Walked {
             number: 0,
             ended: 1,
             entry: NOBODY,
         },
-        journal::Walked::Refused(r) => Walked {
+        Err(r) => Walked {
             number: said(r).number,
             ended: 0,
             entry: NOBODY,
@@ -194,32 +198,34 @@ pub fn walked(o: journal::Walked) -> Walked
 }
 
 // A record has 65 bytes.
-pub fn spelt(v: Verdict) -> Written
+#[tactic(auto, unfolding(moves::specs::First::number_of_verdict, crate::specs::Values::length_of_spelling))]
+pub fn spelt(v: Result<(), Refusal>) -> Written
     ensures number_value { result.number ≡ number_of_verdict v }
     ensures length_value { result.length ≡ length_of_spelling v }
 {
     match v {
-        Verdict::Clear => Written {
+        Ok(()) => Written {
             number: 0,
             length: 65,
         },
-        Verdict::Refused(r) => Written {
+        Err(r) => Written {
             number: said(r).number,
             length: 0,
         },
     }
 }
 
-pub fn written(o: sheet::Written) -> Written
+#[tactic(auto, unfolding(sheet::specs::Sheet::number_of_written, sheet::specs::Sheet::length_of_written))]
+pub fn written(o: Result<usize, Refusal>) -> Written
     ensures number_value { result.number ≡ number_of_written o }
     ensures length_value { result.length ≡ length_of_written o }
 {
     match o {
-        sheet::Written::Length(size) => Written {
+        Ok(size) => Written {
             number: 0,
             length: size as u64,
         },
-        sheet::Written::Refused(r) => Written {
+        Err(r) => Written {
             number: said(r).number,
             length: 0,
         },

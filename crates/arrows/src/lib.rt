@@ -13,7 +13,8 @@ use crate::runs::{Arrow, Stop, take};
 
 pub mod runs;
 
-// Puts the arrows into the table, up to the first that does not fit. Do all fit?
+// Puts the arrows into the table, up to the first that does not fit. Do all fit? A `bool`, since on a refusal too the clause `table_after`
+// says what the table holds.
 pub fn read(s: &[u8], n: u8, table: &mut [u64; 256]) -> bool
     requires { (n ≤ 64) × (length s.now % 3 ≡ 0) }
     ensures value { result ≡ link_in_order n (arrows_in s.now) }
@@ -31,6 +32,7 @@ pub fn read(s: &[u8], n: u8, table: &mut [u64; 256]) -> bool
 }
 
 // How many steps are in x?
+#[tactic(auto, using(crate::specs::Rows::members_count))]
 fn many(x: u64) -> usize
     ensures { result ≡ length (members x) }
 {
@@ -100,6 +102,7 @@ fn write_kind(k: u8, n: u8, rows: &[u64], room: &mut [u8], at: usize) -> usize
 }
 
 // The rows of kind k by the step that its arrows come from. The conditions are turned already.
+#[tactic(auto, unfolding(crate::specs::Rows::from_rows))]
 fn from_rows<'a>(k: usize, conditions: &'a [u64], table: &'a [u64]) -> &'a [u64]
     requires { (k < 4) × (length table.now ≡ 256) }
     ensures { result.now ≡ from_rows conditions.now table.now k }
@@ -112,7 +115,8 @@ fn from_rows<'a>(k: usize, conditions: &'a [u64], table: &'a [u64]) -> &'a [u64]
     &table[from..end]
 }
 
-// How many bytes do the arrows of the table take?
+// How many bytes do the arrows of the table take? What is asked of n, the conditions and the table (`Kept`) stands in `size` and `write` alone,
+// so it has no type of its own.
 pub fn size<'a>(n: u8, conditions: &'a [u64], table: &'a [u64]) -> usize
     requires { Kept n table.now × (length table.now ≡ 256) × (conditions.now ≡ turned_in n table.now) }
     ensures { result ≡ length (arrows_body table.now) }
@@ -124,7 +128,7 @@ pub fn size<'a>(n: u8, conditions: &'a [u64], table: &'a [u64]) -> usize
     3 * found
 }
 
-// Writes the arrows of the table, and gives the place after them.
+// Writes the arrows of the table, and gives the place after them: `Spliced` speaks of the whole room and of that place.
 pub fn write<'a>(
     n: u8,
     conditions: &'a [u64],

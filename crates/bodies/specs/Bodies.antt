@@ -4,7 +4,7 @@ use Rattle.sets.specs.Sets.{within, every}
 use Rattle.moves.specs.declared.Marking.{Marking}
 use Rattle.tables.specs.Tables.{row}
 use Rattle.numbers.specs.Numbers.{number, bytes}
-use Rattle.bodies.specs.declared.Counts.{Counts}
+use Rattle.tables.specs.declared.Counts.{Counts}
 use Rattle.bodies.specs.Tables.{tabled}
 
 -- ---- 1. Counts: steps, people, roles, actions. 4 bytes

@@ -1,20 +1,14 @@
 // A reader and a writer for each body of a sheet.
 #![tactic(auto)]
 
-ghost use Rattle.std.specs.Prelude.{◌≡◌, ◌+◌, ◌*◌, ◌%◌, ◌<◌, ◌≤◌, length};
+ghost use Rattle.std.specs.Prelude.{◌≡◌, ℕ, ◌+◌, ◌*◌, ◌%◌, ◌<◌, ◌≤◌, length};
 ghost use Rattle.numbers.specs.Numbers.{Spliced};
+ghost use Rattle.bodies.specs.Tables.{tabled};
 ghost use Rattle.bodies.specs.Bodies.{counts_body, counts_in, marking_body, marking_in, rows_body, set_at, sets_in, role_sets_fit};
 ghost use Rattle.bodies.specs.Bodies.{label_at, labels_in, actions_fit};
 
 use moves::Marking;
-
-#[derive(Clone, Copy)]
-pub struct Counts {
-    pub steps: u64,
-    pub people: u64,
-    pub roles: u64,
-    pub actions: u64,
-}
+use tables::Counts;
 
 // Byte `at` counts the actions.
 pub fn read_counts(body: &[u8], at: usize) -> Counts
@@ -58,14 +52,23 @@ pub fn role_sets_fit(body: &[u8], roles: u64) -> bool
     requires { (roles ≤ 64) × (length body.now < 65536) × (length body.now % 2 ≡ 0) }
     ensures { result ≡ role_sets_fit roles body.now }
 {
-    let count = body.len() / 2;
     let mut found = 0;
-    let mut i = 0;
-    while i < count {
+    for i in 0..body.len() / 2 {
         found = found | role_set(body, i);
-        i += 1;
     }
     sets::within(roles, found as u64)
+}
+
+// Puts the first `count` rows, as `row` gives them, into the block from word `at` on, and gives the place after them.
+fn put_rows<F: Fn(usize) -> u64>(row: F, count: usize, block: &mut [u64], at: usize) -> usize
+    requires fits { at + count ≤ length block.old }
+    requires callable { (i : ℕ) → i < count → F.pre row i }
+    ensures { (f : ℕ → ℕ) → ((i x : ℕ) → i < count → F.post row i x → x ≡ f i) → Spliced (tabled count f) at block.old block.new result }
+{
+    for i in 0..count {
+        block[at + i] = row(i);
+    }
+    at + count
 }
 
 // Puts `count` role sets into the block from word `at` on, those of the body and then empty ones, and gives the place after them.
@@ -73,24 +76,17 @@ pub fn read_roles(body: &[u8], count: usize, block: &mut [u64], at: usize) -> us
     requires { (count ≤ 64) × (length body.now % 2 ≡ 0) × (at + count ≤ length block.old) }
     ensures { Spliced (sets_in count body.now) at block.old block.new result }
 {
-    let mut i = 0;
-    while i < count {
-        block[at + i] = role_set(body, i) as u64;
-        i += 1;
-    }
-    at + count
+    put_rows(|i| role_set(body, i) as u64, count, block, at)
 }
 
-// Is each action of the body one that there is?
+// Is each action of the body one that there is? All are tested, where `all` would stop at the first that is not: so the loop has no way
+// out and takes many bytes at once.
 pub fn actions_fit(body: &[u8], actions: u64) -> bool
     ensures { result ≡ actions_fit actions body.now }
 {
     let mut fit = true;
-    let mut i = 0;
-    while i < body.len() {
-        let a = body[i];
-        fit = fit & ((a as u64) < actions);
-        i += 1;
+    for a in body {
+        fit = fit & ((*a as u64) < actions);
     }
     fit
 }
@@ -110,12 +106,7 @@ pub fn read_labels(body: &[u8], own: usize, count: usize, block: &mut [u64], at:
     requires { (count ≤ 64) × (at + count ≤ length block.old) }
     ensures { Spliced (labels_in count own body.now) at block.old block.new result }
 {
-    let mut i = 0;
-    while i < count {
-        block[at + i] = label(body, own, i);
-        i += 1;
-    }
-    at + count
+    put_rows(|i| label(body, own, i), count, block, at)
 }
 
 // Copies the rows into the block from word `at` on, and gives the place after them.
@@ -123,12 +114,9 @@ pub fn copy(rows: &[u64], block: &mut [u64], at: usize) -> usize
     requires { at + length rows.now ≤ length block.old }
     ensures { Spliced rows.now at block.old block.new result }
 {
-    let mut i = 0;
-    while i < rows.len() {
-        block[at + i] = rows[i];
-        i += 1;
-    }
-    at + rows.len()
+    let next = at + rows.len();
+    block[at..next].copy_from_slice(rows);
+    next
 }
 
 pub fn write_counts(c: Counts, room: &mut [u8], at: usize) -> usize
@@ -156,10 +144,8 @@ pub fn write_rows(w: usize, count: usize, table: &[u64], room: &mut [u8], at: us
     ensures { Spliced (rows_body w count table.now) at room.old room.new result }
 {
     let mut to = at;
-    let mut i = 0;
-    while i < count {
-        to = numbers::put(table[i], w, room, to);
-        i += 1;
+    for row in &table[..count] {
+        to = numbers::put(*row, w, room, to);
     }
     to
 }

@@ -8,7 +8,7 @@ use Rattle.moves.specs.First.{Line, first}
 use Rattle.rules.specs.Graph.{Graph}
 use Rattle.bodies.specs.Tables.{tabled}
 use Rattle.sheet.specs.Sheet.{Written}
-use Rattle.sheet.specs.Sheet.{sheet_bytes, if_clear, written_of}
+use Rattle.sheet.specs.Sheet.{sheet_bytes, if_clear, answer_of}
 
 -- ---- the steps: 0 is the reboot, 1 to b check an arm each, and the last publishes
 
@@ -104,7 +104,7 @@ cabinet_verdict b room = first (cabinet_lines b room)
 
 -- what is answered
 abbrev pub the_cabinet : ℕ → ℕ → Written
-the_cabinet b room = written_of (cabinet_verdict b room) (length (cabinet_bytes b))
+the_cabinet b room = answer_of (cabinet_verdict b room) (length (cabinet_bytes b))
 
 -- the room afterwards: the sheet, and what stood beyond it; on a refusal as it was
 abbrev pub cabinet_after : ℕ → List ℕ → List ℕ

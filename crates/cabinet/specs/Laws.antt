@@ -24,7 +24,7 @@ use Rattle.bodies.specs.Tables.{tabled, row_tabled, keeps_tabled, labels_tabled}
 use Rattle.writing.specs.Writing.{content_lines}
 use Rattle.writing.specs.Laws.{content_graph}
 use Rattle.sheet.specs.Sheet.{Written}
-use Rattle.sheet.specs.Sheet.{write_verdict, written_of, the_written, room_after, if_clear}
+use Rattle.sheet.specs.Sheet.{write_verdict, answer_of, the_written, room_after, if_clear}
 use Rattle.sheet.specs.Laws.{if_refused}
 use Rattle.cabinet.specs.Cabinet.{publish, checks, by_step, following, includes_at, excludes_at, label_at, allows_at, holds_at}
 use Rattle.cabinet.specs.Cabinet.{climber, desk, cabinet, at_first, cabinet_bytes, arms_fit, cabinet_verdict, the_cabinet, cabinet_after}
@@ -206,11 +206,11 @@ module _ (b : ℕ) (old : List ℕ) where
     pub room : new ≡ cabinet_after b old
 
   pub wrong_arms : arms_fit b ≡ false → Wrote old (Err Arms)
-  unfolding cabinet_verdict first written_of
+  unfolding cabinet_verdict first answer_of
   wrong_arms e =
       let v : cabinet_verdict b (length old) ≡ Err Arms = simp e in
       record {
-        answer = sym (ap (λ (w : Verdict). written_of w (length (cabinet_bytes b))) v);
+        answer = sym (ap (λ (w : Verdict). answer_of w (length (cabinet_bytes b))) v);
         room = sym (if_refused (cabinet_verdict b (length old)) Arms (cabinet_bytes b ++ drop (length (cabinet_bytes b)) old) old v);
       }
 
@@ -227,7 +227,7 @@ module _ (b : ℕ) (old : List ℕ) where
   right_arms e g m new w p q answered after =
       record {
         answer = answered ∙ ap₂ (λ (x : Graph) (y : Marking). the_written x y (length old)) p q
-            ∙ ap (λ (v : Verdict). written_of v (length (cabinet_bytes b))) (same_verdict e (length old));
+            ∙ ap (λ (v : Verdict). answer_of v (length (cabinet_bytes b))) (same_verdict e (length old));
         room = after ∙ ap₂ (λ (x : Graph) (y : Marking). room_after x y old) p q
             ∙ ap (λ (v : Verdict). if_clear v (cabinet_bytes b ++ drop (length (cabinet_bytes b)) old) old) (same_verdict e (length old));
       }

@@ -7,17 +7,15 @@ ghost use Rattle.cabinet.specs.Cabinet.{the_cabinet, cabinet_after};
 use crate::inner::{arms_fit, at_first, fill};
 use moves::Refusal;
 use rules::WORDS;
-use sheet::Written;
 
 pub mod inner;
 
-// Writes the sheet for so many arms. Refusals 30, then 18; on a refusal the room stays as it is.
+// Writes the sheet for so many arms, and gives its length. Refusals 30, then 18; on a refusal the room stays as it is.
 pub fn write(arms: u64, room: &mut [u8]) -> Result<usize, Refusal>
     ensures value { result ≡ the_cabinet arms (length room.old) }
     ensures room_after { room.new ≡ cabinet_after arms room.old }
 {
-    let told = arms_fit(arms);
-    if !told {
+    if !arms_fit(arms) {
         return Err(Refusal::Arms);
     }
     let mut g = [0u64; WORDS];

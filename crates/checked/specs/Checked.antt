@@ -1,7 +1,7 @@
 -- What is published was checked. Since its last reboot, or since the start, a cabinet has taken checks 1 to k in order, and behind check b
 -- it may have published; this is kept up by every step that is allowed (`Standing`). Assumes nothing.
 use Prim.Native.Nat.{ℕ, suc, ◌+◌, ◌≤◌, ◌<◌}
-use Rattle.std.specs.Prelude.{◌≡◌, ◌↔◌, ◌⊎◌, Bool, true, false, cond, length, replicate, eqb}
+use Rattle.std.specs.Prelude.{◌≡◌, ◌↔◌, ◌⊎◌, Bool, true, false, cond, length, replicate, eqb, Ok}
 use Rattle.std.proofs.Math.Path.{refl, ap, subst}
 use Rattle.std.proofs.Common.{sym, ap₂, ◌∙◌, inl, inr, arith, add-one, eq-eqb, ne_eqb}
 use mathlib.Core.List.{List, [], ◌∷◌, ◌++◌, append_assoc, append-nil}
@@ -9,7 +9,6 @@ use Rattle.std.proofs.Math.Decide.{dec_lt}
 use Rattle.sets.specs.Sets.{has}
 use Rattle.moves.specs.declared.Marking.{Marking}
 use Rattle.moves.specs.declared.Entry.{Entry}
-use Rattle.moves.specs.Move.{Move}
 use Rattle.moves.specs.Move.{after, is_finished}
 use Rattle.rules.specs.Answers.{the_move, row_of}
 use Rattle.rules.specs.Paper.{Ready, Allowed}
@@ -22,7 +21,6 @@ use Rattle.checked.specs.Words.{steps_taken, checks_in, one_to, Occurs, kept_on,
 use Rattle.checked.specs.Lists.{checks_append, checks_counted, checks_none, counted_occurs, occurs_counted}
 use Rattle.checked.specs.Lists.{replicate_more, parted}
 use Rattle.checked.specs.Standing.{Stands, stands_first, in_which, on_reboot, on_check, on_publish, stands_finished, finished_stands}
-use Rattle.std.specs.Prelude.{Ok}
 
 -- the marking is one after these steps since the last reboot
 pub record Seen (b : ℕ) (m : Marking) (since : List ℕ) : Type 0 where

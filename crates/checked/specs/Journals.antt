@@ -1,11 +1,12 @@
 -- The request's two sentences over journals, and the accident that they rule out, with records too. Each is said twice: over the cut behind
 -- the last reboot, and over whatever steps stand behind it (`Behind`). Assumes nothing.
-use Rattle.std.specs.Prelude.{ℕ, suc, ◌+◌, ◌%◌, ◌≤◌, ◌<◌, ◌≡◌, refl, ◌↔◌, List, ◌∷◌, ◌++◌, Bool, true, false, cond, length, get_or, take, drop, replicate}
+use Rattle.std.specs.Prelude.{ℕ, suc, ◌+◌, ◌%◌, ◌≤◌, ◌<◌, ◌≡◌, refl, ◌↔◌, List, ◌∷◌, ◌++◌, Bool, true, false}
+use Rattle.std.specs.Prelude.{cond, length, get_or, take, drop, replicate, Result, Ok}
 use Rattle.std.proofs.Common.{sym, ap, ◌∙◌, subst, append_assoc, arith}
 use Rattle.std.proofs.Math.Seq.{split_at}
 use Rattle.moves.specs.declared.Marking.{Marking}
+use Rattle.moves.specs.declared.Refusal.{Refusal}
 use Rattle.moves.specs.declared.Entry.{Entry}
-use Rattle.moves.specs.First.{Verdict}
 use Rattle.moves.specs.Move.{entry_of, is_finished}
 use Rattle.moves.specs.Inside.{Inside, fits_inside, inside_fits}
 use Rattle.rules.specs.declared.Ending.{Ending}
@@ -13,7 +14,7 @@ use Rattle.rules.specs.Graph.{graph_verdict}
 use Rattle.rules.specs.Answers.{the_asked, the_ending}
 use Rattle.rules.specs.Laws.{ending_clear, ending_inside}
 use Rattle.rules.proofs.Taken.{asked_allowed}
-use Rattle.journal.specs.Ran.{Ran}
+use Rattle.journal.specs.Ran.{ended}
 use Rattle.journal.specs.Journal.{entries}
 use Rattle.journal.specs.Run.{the_run}
 use Rattle.journal.specs.Laws.{entries_append}
@@ -27,9 +28,6 @@ use Rattle.cabinet.specs.Laws.{arms_low, arms_high, cabinet_clear, first_fits}
 use Rattle.checked.specs.Words.{steps_taken, steps_of, checks_in, one_to, Occurs, since_reboot, Behind, rebooted}
 use Rattle.checked.specs.Lists.{behind_since, counted_occurs, steps_append}
 use Rattle.checked.specs.Checked.{included_all, published_all, finished_all, finished_counted, only_checks}
-use Rattle.std.specs.Prelude.{Ok, Result}
-use Rattle.journal.specs.Ran.{ended}
-use Rattle.moves.specs.declared.Refusal.{Refusal}
 
 pub clear : (b : ℕ) → arms_fit b ≡ true → graph_verdict (cabinet b) ≡ Ok tt
 clear b arms = cabinet_clear b (let h : 2 ≤ b = arms_low b arms in omega arith) (arms_high b arms)
@@ -42,10 +40,11 @@ pub ending_reached : (b : ℕ) → arms_fit b ≡ true → (m : Marking) → Ins
     → the_ending (cabinet b) m ≡ cond (is_finished m) (Ok Ending.Finished) (Ok Ending.Open)
 ending_reached b arms m i = ending_clear (cabinet b) m (clear b arms) ∙ ending_inside (b + 2) m (inside_fits (b + 2) m i)
 
-by_ending : (f : Bool) (e : (Result Ending Refusal)) → e ≡ cond f (Ok Ending.Finished) (Ok Ending.Open) → (e ≡ Ok Ending.Finished) ↔ (f ≡ true)
+by_ending : (f : Bool) (e : Result Ending Refusal) → e ≡ cond f (Ok Ending.Finished) (Ok Ending.Open)
+    → (e ≡ Ok Ending.Finished) ↔ (f ≡ true)
 by_ending true e q = (λ z. refl, λ z. q)
 by_ending false e q = (
-  λ z. absurd (let s : (Ok Ending.Open) ≡ (Ok Ending.Finished) = sym q ∙ z in let y : ◌≡◌ {A = ℕ} 0 1 = cc in let w : ⊥ = omega arith in w),
+  λ z. absurd (let s : Ok Ending.Open ≡ Ok Ending.Finished = sym q ∙ z in let y : ◌≡◌ {A = ℕ} 0 1 = cc in let w : ⊥ = omega arith in w),
   λ z. absurd (let y : ◌≡◌ {A = ℕ} 0 1 = cc in let w : ⊥ = omega arith in w),
 )
 

@@ -1,7 +1,7 @@
 -- Neither sentence is empty: from wherever the job stands a whole round can be run, it publishes, and the job is finished after it, while at
 -- the start it is not. And the desk may publish exactly when all checks have occurred. Assumes nothing.
 use Prim.Native.Nat.{ℕ, zero, suc, ◌+◌, ◌*◌, ◌%◌, ◌≤◌, ◌<◌}
-use Rattle.std.specs.Prelude.{◌≡◌, ◌↔◌, Bool, true, cond}
+use Rattle.std.specs.Prelude.{◌≡◌, ◌↔◌, Bool, true, cond, Ok}
 use Rattle.std.proofs.Math.Path.{refl, ap, subst}
 use Rattle.std.proofs.Common.{sym, ◌∙◌, true≢false, length-append, lit<, lt-ltb, eq-eqb, le-leb}
 use mathlib.Core.List.{List, [], ◌∷◌, ◌++◌}
@@ -14,8 +14,6 @@ use Rattle.numbers.specs.Numbers.{Bytes}
 use Rattle.numbers.specs.Laws.{none_bytes, more_bytes, append_bytes}
 use Rattle.moves.specs.declared.Marking.{Marking}
 use Rattle.moves.specs.declared.Entry.{Entry}
-use Rattle.moves.specs.First.{Verdict}
-use Rattle.moves.specs.Move.{Move}
 use Rattle.moves.specs.Move.{entry_of, after, is_finished}
 use Rattle.moves.specs.Inside.{Inside, inside_fits}
 use Rattle.rules.specs.declared.Ending.{Ending}
@@ -23,7 +21,7 @@ use Rattle.rules.specs.Answers.{the_asked, the_move, the_ending, row_of}
 use Rattle.rules.specs.Paper.{Ready, Allowed}
 use Rattle.rules.proofs.Taken.{allowed_asked, allowed_taken}
 use Rattle.tables.specs.Tables.{row}
-use Rattle.journal.specs.Ran.{Ran}
+use Rattle.journal.specs.Ran.{ended}
 use Rattle.journal.specs.Journal.{entries, length_fits}
 use Rattle.journal.specs.Run.{run_from, the_run}
 use Rattle.journal.specs.Laws.{entries_length, entries_append, run_clear}
@@ -35,8 +33,6 @@ use Rattle.checked.specs.Words.{steps_of, checks_in, one_to, since_reboot, check
 use Rattle.checked.specs.Standing.{Stands, stands_first, on_reboot, on_check, on_publish, stands_finished, finished_stands}
 use Rattle.checked.specs.Checked.{Seen, passes_seen, finished_counted}
 use Rattle.checked.specs.Journals.{clear, inside_first, ending_reached, publish_held}
-use Rattle.std.specs.Prelude.{Ok}
-use Rattle.journal.specs.Ran.{ended}
 
 module _ (b : ℕ) (arms : arms_fit b ≡ true) where
   some : 1 ≤ b
@@ -207,7 +203,7 @@ module _ (b : ℕ) (arms : arms_fit b ≡ true) where
         all.last,
         run_clear (cabinet b) m (whole_round b) (clear b arms) fits (inside_fits (b + 2) m i)
             ∙ passes_run (cabinet b) m all.last 0 (entries (whole_round b)) all.passes
-            ∙ ap ((λ x. Ok (ended all.last x)))
+            ∙ ap (λ (k : ℕ). Ok (ended all.last k))
             (let z : 0 + length (entries (whole_round b)) ≡ b + 2 = omega arith in z),
         ending_reached b arms all.last all.inside
             ∙ ap (λ (f : Bool). cond f (Ok Ending.Finished) (Ok Ending.Open)) (stands_finished b b all.last all.stands refl),

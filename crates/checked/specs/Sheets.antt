@@ -1,6 +1,6 @@
 -- The cabinet's sheet itself: 4b + 1 arrows, 72 + 15b bytes, when which number is given, and what it reads as. The arrows are counted kind by
 -- kind and row by row: a row names no step, one step, or a span of b steps. Assumes nothing.
-use Rattle.std.specs.Prelude.{ℕ, zero, suc, ◌+◌, ◌-◌, ◌*◌, ◌≤◌, ◌<◌, ◌≡◌, refl, List, [], ◌++◌, Bool, true, false, not, ◌||◌, ltb}
+use Rattle.std.specs.Prelude.{ℕ, zero, suc, ◌+◌, ◌-◌, ◌*◌, ◌≤◌, ◌<◌, ◌≡◌, refl, List, [], ◌++◌, Bool, true, false, not, ◌||◌, ltb, Ok, Err}
 use Rattle.std.proofs.Common.{sym, ap₂, ◌∙◌, subst, arith, zero-mul, suc-mul, length-append, lit<, lt-ltb, le-ltb}
 use Rattle.std.proofs.Math.Path.{ap}
 use Rattle.std.proofs.Math.Bool.{cond}
@@ -23,8 +23,7 @@ use Rattle.bodies.specs.Tables.{tabled, length_tabled, row_tabled}
 use Rattle.writing.specs.Writing.{arrow_table, sheet_bytes}
 use Rattle.writing.specs.Laws.{kind_lies, table_kept, content_graph}
 use Rattle.writing.specs.Parts.{sheet_length}
-use Rattle.sheet.specs.Sheet.{Written}
-use Rattle.sheet.specs.Sheet.{written_of}
+use Rattle.sheet.specs.Sheet.{answer_of}
 use Rattle.rounds.specs.Says.{Says}
 use Rattle.rounds.specs.Read.{read_written}
 use Rattle.cabinet.specs.Cabinet.{publish, checks, following, responses_at, includes_at, excludes_at, cabinet, at_first, cabinet_bytes}
@@ -32,7 +31,6 @@ use Rattle.cabinet.specs.Cabinet.{arms_fit, cabinet_verdict, the_cabinet}
 use Rattle.cabinet.specs.Rows.{count_at, word_at, at_counts, at_conditions, at_responses, at_includes, at_excludes, words_graph}
 use Rattle.cabinet.specs.Laws.{by_reboot, by_check, by_publish, following_most, others_span, arms_low, arms_high, first_fits}
 use Rattle.checked.specs.Journals.{clear}
-use Rattle.std.specs.Prelude.{Ok, Err}
 
 -- ---- how many steps a row names
 
@@ -222,15 +220,15 @@ module _ (b : ℕ) (arms : arms_fit b ≡ true) where
       ∙ ap (λ (size : ℕ). cond (ltb room size) (Err Room) (Ok tt)) sheet_bytes_lem
 
   pub room_short : (room : ℕ) → room < 72 + 15 * b → the_cabinet b room ≡ Err Room
-  unfolding written_of
+  unfolding answer_of
   room_short room h =
-      ap (λ (v : Verdict). written_of v (length (cabinet_bytes b)))
+      ap (λ (v : Verdict). answer_of v (length (cabinet_bytes b)))
       (verdict_room room ∙ ap (λ (t : Bool). cond t (Err Room) (Ok tt)) (lt-ltb room (72 + 15 * b) h))
 
   pub room_enough : (room : ℕ) → 72 + 15 * b ≤ room → the_cabinet b room ≡ Ok (72 + 15 * b)
-  unfolding written_of
+  unfolding answer_of
   room_enough room h =
-      ap (λ (v : Verdict). written_of v (length (cabinet_bytes b)))
+      ap (λ (v : Verdict). answer_of v (length (cabinet_bytes b)))
       (verdict_room room ∙ ap (λ (t : Bool). cond t (Err Room) (Ok tt)) (le-ltb room (72 + 15 * b) h))
       ∙ ap Ok sheet_bytes_lem
 
@@ -244,5 +242,5 @@ module _ (b : ℕ) (arms : arms_fit b ≡ true) where
 
 -- 30, whatever the room
 pub arms_wrong : (b room : ℕ) → arms_fit b ≡ false → the_cabinet b room ≡ Err Arms
-unfolding cabinet_verdict first written_of
+unfolding cabinet_verdict first answer_of
 arms_wrong b room e = simp e

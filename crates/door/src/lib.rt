@@ -128,8 +128,7 @@ pub extern "C" fn ulz_walk(journal: &[u8], place: usize) -> Walked
     ensures result_value { result.entry ≡ entry_of_walked (stride_at journal.now place).said }
 {
     let s = journal::walk_at(journal, place);
-    let said = s.said;
-    told::walked(said)
+    told::walked(s.said)
 }
 
 // The stem, then the lap without end. Refusals 2, 4, 6, 7, 8, 17, 11 to 15.
@@ -259,10 +258,8 @@ pub extern "C" fn ulz_read<'a, 'b, 'c>(sheet: &'a [u8], g: &'b mut Job, m: &'c m
     ensures m_after { m.new ≡ if_clear (read_verdict sheet.now)
         (marking_words (first_of sheet.now)) m.old }
 {
-    let a = sheet::read(sheet, g);
-    let v = a.verdict;
-    let start = a.first;
-    lent::first(v, start, m)
+    let o = sheet::read(sheet, g);
+    lent::first(o, m)
 }
 
 // Refusals 2, 4, 6, 18.

@@ -252,7 +252,7 @@ module _ (g : Graph) (m : Marking) (store : List ℕ) (answered : first (ends_li
         last = e.last;
         lent = bytes_journal g m e.last e.way (clear_counts g clear) e.passes;
         allowed = run_clear g m (journal_of e.way) clear fits within ∙ ap (run_from g m 0) (entries_journal e.way)
-            ∙ passes_run g m e.last 0 e.way e.passes ∙ ap ((λ x. Ok (ended e.last x))) (let z : 0 + length e.way ≡ n = omega arith in z);
+            ∙ passes_run g m e.last 0 e.way e.passes ∙ ap (λ (x : ℕ). Ok (ended e.last x)) (let z : 0 + length e.way ≡ n = omega arith in z);
         finished = e.finished;
       }
 

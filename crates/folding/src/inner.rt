@@ -71,15 +71,8 @@ pub fn cleared(r: Record) -> Record
     ensures { result ≡ r }
 {
     Record {
-        never: r.never,
-        needin: r.needin,
-        needex: r.needex,
-        needout: r.needout,
-        done: r.done,
-        dueset: r.dueset,
         dueclear: r.done,
-        inset: r.inset,
-        inclear: r.inclear,
+        ..r
     }
 }
 
@@ -90,8 +83,7 @@ pub fn fold_entries<'a, 'b>(g: &'a Job, j: &'b [u8]) -> Record
 {
     let count = j.len() / 3;
     let mut r = Record::IDENTITY;
-    let mut k = 0;
-    while k < count {
+    for k in 0..count {
         let e = entry_record(g, entry_at(j, k));
         if e.never {
             return NEVER;
@@ -100,7 +92,6 @@ pub fn fold_entries<'a, 'b>(g: &'a Job, j: &'b [u8]) -> Record
         if r.never {
             return NEVER;
         }
-        k += 1;
     }
     tidied(r)
 }

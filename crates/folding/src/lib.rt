@@ -6,11 +6,11 @@ ghost use Rattle.rules.specs.Graph.{graph_of};
 ghost use Rattle.folding.specs.Answers.{the_fold, the_restoring};
 
 use crate::inner::fold_entries;
-use journal::Ran;
 use journal::inner::length_fits;
-use moves::{Marking, NONE, Refusal, Verdict};
+use journal::{Ended, Stopped};
+use moves::{Marking, Refusal};
+use records::Record;
 use records::inner::{given, suits, well_formed};
-use records::{Record, Recorded};
 use rules::Job;
 
 pub mod inner;
@@ -19,10 +19,7 @@ pub mod inner;
 pub fn fold<'a, 'b>(g: &'a Job, j: &'b [u8]) -> Result<Record, Refusal>
     ensures { result ≡ the_fold (graph_of g.now) j.now }
 {
-    let v = rules::check(g);
-    if let Err(r) = v {
-        return Err(r);
-    }
+    rules::check(g)?;
     if !length_fits(j) {
         return Err(Refusal::Length);
     }
@@ -35,21 +32,22 @@ pub fn restore<'a, 'b>(g: &'a Job, r: Record, j: &'b [u8], m: Marking) -> Result
     ensures { result ≡ the_restoring (graph_of g.now) r j.now m }
 {
     let steps = g[0];
-    let v = rules::check(g);
-    if let Err(q) = v {
-        return Err(Stopped { index: 0, marking: NONE, refusal: q });
-    }
+    rules::check(g)?;
     if !length_fits(j) {
-        return Ran::Stopped(0, NONE, Refusal::Length);
+        return Err(Stopped::from(Refusal::Length));
     }
     if !moves::inner::fits(steps, m) {
-        return Ran::Stopped(0, NONE, Refusal::Outside);
+        return Err(Stopped::from(Refusal::Outside));
     }
     if !well_formed(steps, r) {
-        return Ran::Stopped(0, NONE, Refusal::IllFormed);
+        return Err(Stopped::from(Refusal::IllFormed));
     }
     if !suits(r, m) {
-        return Ran::Stopped(0, m, Refusal::NotApplied);
+        return Err(Stopped {
+            index: 0,
+            marking: m,
+            refusal: Refusal::NotApplied,
+        });
     }
     journal::quick::run_entries(g, given(r, m), j)
 }

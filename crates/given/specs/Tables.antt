@@ -109,7 +109,7 @@ module _ (g : Graph) where
   step_given t e = exactly (step_lines g t e) (number_of_tracked (the_step g t e)) refl (step_number g t e)
 
 -- can the job still end: 2, 4, 6, 8, 22; a search that is begun is answered
-number_cond : (b : Bool) (x y : (Result Ends Refusal)) → number_of_ends (cond b x y) ≡ cond b (number_of_ends x) (number_of_ends y)
+number_cond : (b : Bool) (x y : Result Ends Refusal) → number_of_ends (cond b x y) ≡ cond b (number_of_ends x) (number_of_ends y)
 number_cond true x y = refl
 number_cond false x y = refl
 
@@ -122,7 +122,7 @@ unfolding search_from number_of_ends
 search_answered zero c g m i = refl
 search_answered (suc k) c g m i = simp (number_cond, search_answered k c g m (suc i), cond_same)
 
-ends_number : (v : Verdict) (o : (Result Ends Refusal)) → number_of_ends o ≡ 0 → number_of_ends (ends_of v o) ≡ number_of_verdict v
+ends_number : (v : Verdict) (o : Result Ends Refusal) → number_of_ends o ≡ 0 → number_of_ends (ends_of v o) ≡ number_of_verdict v
 unfolding ends_of number_of_ends number_of_verdict
 ends_number (Ok _) o e = e
 ends_number (Err r) o e = refl

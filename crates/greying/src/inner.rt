@@ -53,7 +53,7 @@ pub fn roles_of_all(g: &Job) -> u64
     ensures { result ≡ gather 16 (roles_held (graph_of g.now)) }
 {
     let w = &g[..];
-    roles_named(&w[HOLDS..LABELS], 16)
+    roles_named(&w[HOLDS..LABELS])
 }
 
 // The steps that who holds these roles may take.

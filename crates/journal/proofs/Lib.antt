@@ -1,2 +1,2 @@
 -- A theorem that rests on the definition of a run.
-pub mod Stopped
+pub mod Stopping

@@ -77,7 +77,7 @@ unfolding entry_move move_of refusal_in
 refused_moved g m e out =
     let f = quick_refused g m e out in
     let back : Marking = given_back m f.0 in
-    (back, ap (λ (o : Verdict). move_of o m (after_entry g m e)) f.1 ∙ ap ((λ x. Err (denied back x))) (sym (ap refusal_in f.1)))
+    (back, ap (λ (o : Verdict). move_of o m (after_entry g m e)) f.1 ∙ ap (λ (x : Refusal). Err (denied back x)) (sym (ap refusal_in f.1)))
 
 -- ---- its five tests
 

@@ -1,4 +1,5 @@
 pub mod Journal
+pub mod Ran
 pub mod Run
 pub mod Walk
 pub mod Inner

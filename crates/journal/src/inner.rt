@@ -3,7 +3,7 @@ ghost use Rattle.std.specs.Prelude.{◌≡◌, ◌+◌, ◌*◌, ◌≤◌, leng
 ghost use Rattle.journal.specs.Journal.{entry_at, length_fits};
 ghost use Rattle.journal.specs.Walk.{stays, stride_at};
 
-use crate::{Stride, Walked};
+use crate::Stride;
 use moves::{Entry, Refusal, Step};
 
 // Entry k of a journal.
@@ -27,7 +27,7 @@ pub fn length_fits(j: &[u8]) -> bool
 }
 
 // Nothing is handed out, and the place stays.
-fn stay(place: usize, said: Walked) -> Stride
+fn stay(place: usize, said: Result<Option<Entry>, Refusal>) -> Stride
     ensures { result ≡ stays place said }
 {
     Stride { said, place }

@@ -2,14 +2,15 @@
 ghost use Rattle.std.specs.Prelude.{◌≡◌, ◌%◌, ◌≤◌, length};
 ghost use Rattle.rules.specs.Graph.{graph_of, graph_verdict};
 ghost use Rattle.journal.specs.Journal.{entries};
+ghost use Rattle.journal.specs.Ran.{stopped};
 ghost use Rattle.journal.specs.Inner.{run_on};
 ghost use Rattle.journal.specs.Allowed.{is_allowed};
 ghost use Rattle.journal.specs.Singles.{Singles};
 
-use crate::Ran;
 use crate::inner::entry_at;
+use crate::{Ended, Stopped};
 use moves::inner::waits;
-use moves::{Entry, Marking};
+use moves::{Entry, Marking, Refusal};
 use rules::Job;
 use rules::inner::{against, row_at, taken};
 
@@ -108,6 +109,16 @@ pub fn allowed<'a, 'b>(singles: &'b [u64; 64], g: &'a Job, m: Marking, e: Entry)
     waits(w.conditions, m) == 0
 }
 
+fn stopped(index: u16, marking: Marking, refusal: Refusal) -> Stopped
+    ensures { result ≡ stopped index marking refusal }
+{
+    Stopped {
+        index,
+        marking,
+        refusal,
+    }
+}
+
 // The entries, on a graph and a journal with nothing against them. Refusals 11 to 15.
 pub fn run_entries<'a, 'b>(g: &'a Job, m: Marking, j: &'b [u8]) -> Result<Ended, Stopped>
     requires { (graph_verdict (graph_of g.now) ≡ Ok tt) × (length j.now % 3 ≡ 0) × (length j.now ≤ 65535) }
@@ -116,16 +127,16 @@ pub fn run_entries<'a, 'b>(g: &'a Job, m: Marking, j: &'b [u8]) -> Result<Ended,
     let singles = SINGLES;
     let count = j.len() / 3;
     let mut at = m;
-    let mut k = 0;
-    while k < count {
+    for k in 0..count {
         let e = entry_at(j, k);
         if !allowed(&singles, g, at, e) {
             let index = k as u16;
-            return Ran::Stopped(index, at, against(g, at, e));
+            return Err(stopped(index, at, against(g, at, e)));
         }
         at = taken(g, at, e);
-        k += 1;
     }
-    let number = count as u16;
-    Ok(Ended { marking: at, entries: number })
+    Ok(Ended {
+        marking: at,
+        entries: count as u16,
+    })
 }

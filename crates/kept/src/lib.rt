@@ -3,32 +3,38 @@
 
 ghost use Rattle.std.specs.Prelude.{◌≡◌};
 ghost use Rattle.rules.specs.Graph.{graph_of};
-ghost use Rattle.kept.specs.Keep.{the_kept};
+ghost use Rattle.kept.specs.Keep.{kept_by, the_kept};
 
-use moves::{Entry, Marking, Move};
+use moves::{Denied, Entry, Marking};
 use rules::Job;
 
 // The answer of the move, and the marking that lies there then.
 #[derive(Clone, Copy)]
 pub struct Kept {
-    pub answer: Move,
+    pub answer: Result<Marking, Denied>,
     pub marking: Marking,
 }
 
+// A refusal leaves what was kept.
+#[tactic(auto, unfolding(crate::specs::Keep::kept_by))]
+fn kept_by(m: Marking, answer: Result<Marking, Denied>) -> Marking
+    ensures { result ≡ kept_by m answer }
+{
+    match answer {
+        Ok(next) => next,
+        Err(_) => m,
+    }
+}
+
 // The move's answer, beside the marking to keep. Refusals 2, 4, 6, 8, 11 to 15.
+#[tactic(auto, unfolding(crate::specs::Keep::the_kept))]
 pub fn keeping(m: Marking, g: &Job, e: Entry) -> Kept
     ensures { result ≡ the_kept (graph_of g.now) m e }
 {
-    let o = rules::take(g, m, e);
-    match o {
-        Ok(next) => Kept {
-            answer: Ok(next),
-            marking: next,
-        },
-        Err(Denied { marking: back, refusal: r }) => Kept {
-            answer: Err(Denied { marking: back, refusal: r }),
-            marking: m,
-        },
+    let answer = rules::take(g, m, e);
+    Kept {
+        answer,
+        marking: kept_by(m, answer),
     }
 }
 
@@ -49,7 +55,7 @@ pub fn kept_after<'a>(m: Marking, g: &'a Job, e: Entry) -> Kept
     let mut kept = m;
     let answer = keep(&mut kept, g, e);
     Kept {
-        answer: answer,
+        answer,
         marking: kept,
     }
 }

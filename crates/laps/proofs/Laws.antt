@@ -24,6 +24,7 @@ use Rattle.laps.specs.Places.{never_later}
 use Rattle.laps.specs.Three.{IsRefused, IsAccepted, IsStarved, OneOfThree}
 use Rattle.laps.proofs.Right.{some, sound, inside, decision_right}
 use Rattle.std.specs.Prelude.{Ok, Err}
+use Rattle.moves.specs.declared.Denied.{Denied}
 use Rattle.moves.specs.Move.{denied}
 use Rattle.laps.specs.declared.Endless.{Endless}
 use Rattle.laps.specs.declared.Broken.{Broken}
@@ -46,9 +47,11 @@ module _ (g : Graph) (m : Marking) (e : ℕ → Entry) where
           let same : i ≡ j = omega arith in
           let both : Err (denied (marking_at g m e i) r) ≡ Err (denied (marking_at g m e j) q) = sym a.here ∙ ap (moved_at g m e) same
           ∙ b.here in
-          (same, cc)
+          let parts : denied (marking_at g m e i) r ≡ denied (marking_at g m e j) q = cc in
+          (same, ap (λ (d : Denied). d.refusal) parts)
 
-  one_starved : (s t : Step) → Starves g m e s.0 → Starves g m e t.0 → Ok (Endless.Starved s) ≡ Ok (Endless.Starved t)
+  one_starved : (s t : Step) → Starves g m e s.0 → Starves g m e t.0
+      → ◌≡◌ {A = Lapped} (Ok (Endless.Starved s)) (Ok (Endless.Starved t))
   one_starved s t a b = ap (λ (x : ℕ). Ok (Endless.Starved (record { 0 = x }))) (go (dec_lt s.0 t.0) (dec_lt t.0 s.0))
     where
       go : Dec (s.0 < t.0) → Dec (t.0 < s.0) → s.0 ≡ t.0
@@ -110,7 +113,7 @@ module _ (g : Graph) (m : Marking) (stem lap : List ℕ) where
   -- ---- there is only one answer
 
   one_stop : (k j : ℕ) (p q : Pass) (r t : Refusal) → Stops g m S L k p r → Stops g m S L j q t
-      → Err (Broken.Stopped k p r) ≡ Err (Broken.Stopped j q t)
+      → ◌≡◌ {A = Lapped} (Err (Broken.Stopped k p r)) (Err (Broken.Stopped j q t))
   one_stop k j p q r t a b =
       let at = one_position g m e a.position b.position r t a.refused b.refused in
       let index : k ≡ j = a.index ∙ ap (index_at S L) at.0 ∙ sym b.index in

@@ -24,7 +24,7 @@ use Rattle.journal.specs.Journal.{entries, length_fits}
 use Rattle.journal.specs.Laws.{fits_threes, entries_length}
 use Rattle.laps.specs.Lapped.{Lapped}
 use Rattle.laps.specs.declared.Pass.{Pass}
-use Rattle.laps.specs.Decision.{Leg}
+use Rattle.laps.specs.Decision.{Went}
 use Rattle.laps.specs.Endless.{GoesOn, marking_at, DueAt}
 use Rattle.laps.specs.Inner.{verdict_at, Unbarred, inside_until, moves_at, refuses_at}
 use Rattle.laps.specs.Laps.{endless_run, index_at, pass_at, number_of_pass, lengths_lines, empty_lines, lap_lines, LapAnswer}
@@ -99,7 +99,7 @@ module _ (g : Graph) (m : Marking) (stem lap : List ℕ) where
     abbrev Until : ℕ → Type 0
     Until i = (j : ℕ) → j < i → verdict_at g m e j ≡ Ok tt
 
-    until_more : (i n w : ℕ) (leg : Leg) → Until i → Passed g m e i n w leg → Until (i + n)
+    until_more : (i n w : ℕ) (leg : Went) → Until i → Passed g m e i n w leg → Until (i + n)
     until_more i n w leg all p j h = go (dec_lt j i)
       where
         go : Dec (j < i) → verdict_at g m e j ≡ Ok tt
@@ -107,7 +107,7 @@ module _ (g : Graph) (m : Marking) (stem lap : List ℕ) where
         go (no l) = p.allowed j (let z : i ≤ j = omega arith in z) h
 
     -- a leg that is stopped, in the pass that begins at i
-    stopped_right : (i n : ℕ) (p : Pass) (leg : Leg) (rest : Marking → ℕ → Lapped) (b : Barred g m e i n 0 leg) → Until i
+    stopped_right : (i n : ℕ) (p : Pass) (leg : Went) (rest : Marking → ℕ → Lapped) (b : Barred g m e i n 0 leg) → Until i
         → index_at S L (i + b.depth) ≡ b.depth → pass_at S L (i + b.depth) ≡ number_of_pass p → LapAnswer g m stem lap (upon leg p rest)
     unfolding LapAnswer
     stopped_right i n p leg rest b all x y =

@@ -101,7 +101,7 @@ pub record Stops (g : Graph) (m : Marking) (stem lap : List Entry) (k : ℕ) (p 
 -- where the run goes on for ever, accepted, or starved with the lowest step that starves
 unfoldable pub LapAnswer : Graph → Marking → List ℕ → List ℕ → Lapped → Type 0
 LapAnswer g m stem lap (Err (Broken.Refused r)) = first (lap_lines g m stem lap) ≡ Err r
-LapAnswer g m stem lap (Err (Broken.Stopped k p r)) = (first (lap_lines g m stem lap) ≡ Ok tt)
+LapAnswer g m stem lap (Err (Broken.Stopped k p r)) = first (lap_lines g m stem lap) ≡ Ok tt
     × Stops g m (entries stem) (entries lap) k p r
 LapAnswer g m stem lap (Ok Endless.Accepted) =
     (first (lap_lines g m stem lap) ≡ Ok tt)

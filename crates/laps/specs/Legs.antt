@@ -20,11 +20,11 @@ use Rattle.moves.specs.First.{Verdict}
 use Rattle.rules.specs.Answers.{row_of, entry_asked, entry_move}
 use Rattle.moves.specs.Move.{after, move_of}
 use Rattle.folding.specs.Effect.{after_all}
-use Rattle.laps.specs.Decision.{Leg}
+use Rattle.laps.specs.Decision.{Went}
 use Rattle.laps.specs.Endless.{step_at, marking_at, DueAt, DoneAt, ExcludedAt, Waiting}
 use Rattle.laps.specs.Inner.{verdict_at}
 use Rattle.laps.specs.Decision.{still, go_through, leg_on}
-use Rattle.std.specs.Prelude.{Ok, Err, Result}
+use Rattle.std.specs.Prelude.{Ok, Err}
 use Rattle.laps.specs.Decision.{leg}
 use Rattle.laps.specs.Decision.{halt}
 
@@ -127,13 +127,13 @@ module _ (g : Graph) (m : Marking) (e : ℕ → Entry) where
   -- ---- the steps that wait throughout
 
   -- at i the waiting of s ends: it is not due, or it is done, or it is not included
-  abbrev pub (Result Ends Refusal) : ℕ → ℕ → Type 0
-  (Result Ends Refusal) i s = (has (M i).due s ≡ false) ⊎ (DoneAt g m e i s ⊎ ExcludedAt g m e i s)
+  abbrev pub Ends : ℕ → ℕ → Type 0
+  Ends i s = (has (M i).due s ≡ false) ⊎ (DoneAt g m e i s ⊎ ExcludedAt g m e i s)
 
   -- x are the steps of w that wait at each of the n positions from i on
   pub record Throughout (i n w x : ℕ) : Type 0 where
     pub only : (s : ℕ) → has x s ≡ true → (has w s ≡ true) × ((j : ℕ) → i ≤ j → j < i + n → Waiting g m e j s)
-    pub gone : (s : ℕ) → has w s ≡ true → has x s ≡ false → (j : ℕ) × (i ≤ j) × (j < i + n) × (Result Ends Refusal) j s
+    pub gone : (s : ℕ) → has w s ≡ true → has x s ≡ false → (j : ℕ) × (i ≤ j) × (j < i + n) × Ends j s
 
   throughout_none : (i w : ℕ) → Throughout i 0 w w
   throughout_none i w =
@@ -157,7 +157,7 @@ module _ (g : Graph) (m : Marking) (e : ℕ → Entry) where
               (record { due = now.1; included = now.2; undone = now.3 })
 
       gone : (s : ℕ) → has w s ≡ true → has x s ≡ false → (b : Bool) → has (still w (M i) (step_at g m e i)) s ≡ b → (j : ℕ) × (i ≤ j)
-          × (j < i + suc n) × (Result Ends Refusal) j s
+          × (j < i + suc n) × Ends j s
       gone s h k true q =
           let f = r.gone s q k in
           let lo : suc i ≤ f.0 = f.1 in
@@ -168,18 +168,18 @@ module _ (g : Graph) (m : Marking) (e : ℕ → Entry) where
   -- ---- a leg
 
   -- all n entries are allowed
-  pub record Passed (i n w : ℕ) (leg : Leg) : Type 0 where
+  pub record Passed (i n w : ℕ) (went : Went) : Type 0 where
     pub left : ℕ
-    pub is : leg ≡ Ok (leg (M (i + n)) left)
+    pub is : went ≡ Ok (leg (M (i + n)) left)
     pub allowed : (j : ℕ) → i ≤ j → j < i + n → says j ≡ Ok tt
     pub kept : Throughout i n w left
 
   -- one of them is not
-  pub record Barred (i n k : ℕ) (leg : Leg) : Type 0 where
+  pub record Barred (i n k : ℕ) (went : Went) : Type 0 where
     pub depth : ℕ
     pub refusal : Refusal
     pub small : depth < n
-    pub is : leg ≡ Err (halt (k + depth) refusal)
+    pub is : went ≡ Err (halt (k + depth) refusal)
     pub before : (j : ℕ) → i ≤ j → j < i + depth → says j ≡ Ok tt
     pub here : says (i + depth) ≡ Err refusal
 
@@ -195,7 +195,7 @@ module _ (g : Graph) (m : Marking) (e : ℕ → Entry) where
       })
   leg_walks (suc n) i w k = go (says i) refl (leg_walks n (suc i) (still w (M i) (step_at g m e i)) (k + 1))
     where
-      rest : Leg
+      rest : Went
       rest = leg_on g (M (suc i)) (still w (M i) (step_at g m e i)) (k + 1) (chunk e n (suc i))
 
       -- the first of them is allowed, and those after it

@@ -1,4 +1,5 @@
 pub mod Endless
+pub mod Lapped
 pub mod Laps
 pub mod Inner
 pub mod Decision

@@ -17,8 +17,7 @@ use Rattle.moves.specs.Move.{after}
 use Rattle.laps.specs.Endless.{marking_at, DueAt, DoneAt, ExcludedAt, Accepting, Waiting, Starving}
 use Rattle.laps.specs.Inner.{verdict_at, Unbarred}
 use Rattle.laps.specs.Legs.{done_between, Ends, Throughout}
-use Rattle.std.specs.Prelude.{Ok, Result}
-use Rattle.moves.specs.declared.Refusal.{Refusal}
+use Rattle.std.specs.Prelude.{Ok}
 
 module _ (g : Graph) (m : Marking) (e : ℕ → Entry) where
   abbrev M : ℕ → Marking
@@ -55,19 +54,19 @@ module _ (g : Graph) (m : Marking) (e : ℕ → Entry) where
         undone = λ d. w.undone (same_done j i s (same_back i j f) d);
       }
 
-  same_ends : (i j s : ℕ) → Same i j → (Result Ends Refusal) g m e i s → (Result Ends Refusal) g m e j s
+  same_ends : (i j s : ℕ) → Same i j → Ends g m e i s → Ends g m e j s
   same_ends i j s f (inl p) = inl (sym (same_due i j s f) ∙ p)
   same_ends i j s f (inr (inl p)) = inr (inl (same_done i j s f p))
   same_ends i j s f (inr (inr p)) = inr (inr (sym (same_included i j s f) ∙ p))
 
   -- where a step waits its waiting does not end
-  waits_ends : (i s : ℕ) → Waiting g m e i s → (Result Ends Refusal) g m e i s → ⊥
+  waits_ends : (i s : ℕ) → Waiting g m e i s → Ends g m e i s → ⊥
   waits_ends i s v (inl p) = true≢false (sym v.due ∙ p)
   waits_ends i s v (inr (inl p)) = v.undone p
   waits_ends i s v (inr (inr p)) = true≢false (sym v.included ∙ p)
 
   -- where the waiting of a step that was due ends, the step has been done or is not included
-  ends_after : (i s : ℕ) → DueAt g m e i s → (j : ℕ) → i ≤ j → (Result Ends Refusal) g m e j s → (k : ℕ) × (i ≤ k)
+  ends_after : (i s : ℕ) → DueAt g m e i s → (j : ℕ) → i ≤ j → Ends g m e j s → (k : ℕ) × (i ≤ k)
       × (DoneAt g m e k s ⊎ ExcludedAt g m e k s)
   ends_after i s due j h (inl p) =
       let d = done_between g m e (j - i) i s due (ap (λ (k : ℕ). has (M k).due s) (let z : i + (j - i) ≡ j = omega arith in z) ∙ p) in

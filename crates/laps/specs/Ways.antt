@@ -27,15 +27,12 @@ use Rattle.journal.specs.Allowed.{is_allowed, refused_moved}
 use Rattle.journal.specs.Laws.{entries_from}
 use Rattle.laps.specs.Lapped.{Lapped}
 use Rattle.laps.specs.declared.Pass.{Pass}
-use Rattle.laps.specs.Decision.{Leg}
 use Rattle.laps.specs.Laps.{lengths_lines, empty_lines, lap_lines}
-use Rattle.laps.specs.Decision.{still, go_through, leg_on, leg_of, upon}
+use Rattle.laps.specs.Decision.{Went, leg, halt, still, go_through, leg_on, leg_of, upon}
 use Rattle.std.specs.Prelude.{Ok, Err}
 use Rattle.moves.specs.Move.{denied}
 use Rattle.journal.specs.Ran.{ended}
 use Rattle.journal.specs.Ran.{stopped}
-use Rattle.laps.specs.Decision.{leg}
-use Rattle.laps.specs.Decision.{halt}
 use Rattle.laps.specs.declared.Broken.{Broken}
 
 -- ---- a leg, entry by entry
@@ -74,15 +71,15 @@ module _ (g : Graph) (m : Marking) (x : ℕ) (j : List ℕ) (k : ℕ) where
 
 -- ---- what follows a leg
 
-pub upon_ended : (leg : Leg) (p : Pass) (rest : Marking → ℕ → Lapped) (m : Marking) (x : ℕ) → leg ≡ Ok (leg m x)
-    → upon leg p rest ≡ rest m x
+pub upon_ended : (o : Went) (p : Pass) (rest : Marking → ℕ → Lapped) (m : Marking) (x : ℕ) → o ≡ Ok (leg m x)
+    → upon o p rest ≡ rest m x
 unfolding upon
-upon_ended leg p rest m x q = ap (λ (l : Leg). upon l p rest) q
+upon_ended o p rest m x q = ap (λ (l : Went). upon l p rest) q
 
-pub upon_stopped : (leg : Leg) (p : Pass) (rest : Marking → ℕ → Lapped) (k : ℕ) (r : Refusal) → leg ≡ Err (halt k r)
-    → upon leg p rest ≡ Err (Broken.Stopped k p r)
+pub upon_stopped : (o : Went) (p : Pass) (rest : Marking → ℕ → Lapped) (k : ℕ) (r : Refusal) → o ≡ Err (halt k r)
+    → upon o p rest ≡ Err (Broken.Stopped k p r)
 unfolding upon
-upon_stopped leg p rest k r q = ap (λ (l : Leg). upon l p rest) q
+upon_stopped o p rest k r q = ap (λ (l : Went). upon l p rest) q
 
 -- ---- where only the marking at the end of a leg counts, a run tells
 

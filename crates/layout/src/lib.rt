@@ -58,13 +58,11 @@ pub fn fits(s: &[u8], count: usize) -> bool
         return false;
     }
     let mut at = 1 + 5 * count;
-    let mut i = 0;
-    while i < count {
+    for i in 0..count {
         if !line_fits(s, i, at) {
             return false;
         }
         at += size(s, i);
-        i += 1;
     }
     at == s.len()
 }
@@ -85,11 +83,9 @@ fn write_lines(sizes: &[usize], room: &mut [u8], at: usize) -> usize
 {
     let mut to = at;
     let mut offset = 1 + 5 * sizes.len();
-    let mut i = 0;
-    while i < sizes.len() {
-        to = write_line(i + 1, offset, sizes[i], room, to);
-        offset += sizes[i];
-        i += 1;
+    for (i, size) in sizes.iter().enumerate() {
+        to = write_line(i + 1, offset, *size, room, to);
+        offset += *size;
     }
     to
 }

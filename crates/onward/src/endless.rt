@@ -5,8 +5,9 @@ ghost use Rattle.onward.specs.Endless.{lapped_of};
 
 use crate::Lapped;
 use answers::told::said;
-use laps::Pass;
+use laps::{Broken, Pass};
 
+#[tactic(auto, unfolding(laps::specs::Laps::number_of_pass))]
 fn pass(p: Pass) -> u64
     ensures { result ≡ number_of_pass p }
 {
@@ -18,11 +19,12 @@ fn pass(p: Pass) -> u64
     }
 }
 
-pub fn lapped(o: laps::Lapped) -> Lapped
+#[tactic(auto, unfolding(laps::specs::Laps::number_of_lap, laps::specs::Laps::waiting_of_lap, laps::specs::Laps::starved_of_lap, laps::specs::Laps::index_of_lap, laps::specs::Laps::pass_of_lap, crate::specs::Endless::verdict_of_lap))]
+pub fn lapped(o: Result<laps::Endless, Broken>) -> Lapped
     ensures { result ≡ lapped_of o }
 {
     match o {
-        laps::Lapped::Accepted => Lapped {
+        Ok(laps::Endless::Accepted) => Lapped {
             number: 0,
             waiting: 0,
             verdict: 1,
@@ -30,7 +32,7 @@ pub fn lapped(o: laps::Lapped) -> Lapped
             index: 0,
             pass: 0,
         },
-        laps::Lapped::Starved(s) => Lapped {
+        Ok(laps::Endless::Starved(s)) => Lapped {
             number: 0,
             waiting: 0,
             verdict: 2,
@@ -38,7 +40,7 @@ pub fn lapped(o: laps::Lapped) -> Lapped
             index: 0,
             pass: 0,
         },
-        laps::Lapped::Refused(r) => {
+        Err(Broken::Refused(r)) => {
             let w = said(r);
             Lapped {
                 number: w.number,
@@ -49,7 +51,7 @@ pub fn lapped(o: laps::Lapped) -> Lapped
                 pass: 0,
             }
         }
-        laps::Lapped::Stopped(k, p, r) => {
+        Err(Broken::Stopped(k, p, r)) => {
             let w = said(r);
             Lapped {
                 number: w.number,

@@ -6,6 +6,7 @@ ghost use Rattle.onward.specs.Tracks.{rank_in, track_in, track_out, track_of_tra
 use crate::{Track, Tracked};
 use answers::told::said;
 use moves::{NONE, Rank};
+use tracker::Unmoved;
 
 // The state that stands where there is none. No step has its rank.
 pub const NOWHERE: Track = Track {
@@ -24,9 +25,8 @@ fn rank(i: u64) -> Rank
 pub fn track(t: Track) -> tracker::Track
     ensures { result ≡ track_in t }
 {
-    let m = t.marking;
     tracker::Track {
-        marking: m,
+        marking: t.marking,
         rank: rank(t.rank),
         flag: 0 < t.flag,
     }
@@ -35,28 +35,27 @@ pub fn track(t: Track) -> tracker::Track
 fn track_out(t: tracker::Track) -> Track
     ensures { result ≡ track_out t }
 {
-    let m = t.marking;
-    let i = t.rank;
     Track {
-        marking: m,
-        rank: i.0 as u64,
+        marking: t.marking,
+        rank: t.rank.0 as u64,
         flag: t.flag as u64,
     }
 }
 
 // The answer to the state t, which comes back as it was, word for word, from 11 on.
-pub fn tracked(t: Track, o: tracker::Tracked) -> Tracked
+#[tactic(auto, unfolding(tracker::specs::Tracker::number_of_tracked, tracker::specs::Tracker::waiting_of_tracked, crate::specs::Tracks::track_of_tracked))]
+pub fn tracked(t: Track, o: Result<tracker::Track, Unmoved>) -> Tracked
     ensures number_value { result.number ≡ number_of_tracked o }
     ensures waiting_value { result.waiting ≡ waiting_of_tracked o }
     ensures track_value { result.track ≡ track_of_tracked t o }
 {
     match o {
-        tracker::Tracked::At(next) => Tracked {
+        Ok(next) => Tracked {
             number: 0,
             waiting: 0,
             track: track_out(next),
         },
-        tracker::Tracked::Refused(r) => {
+        Err(Unmoved::Refused(r)) => {
             let w = said(r);
             Tracked {
                 number: w.number,
@@ -64,7 +63,7 @@ pub fn tracked(t: Track, o: tracker::Tracked) -> Tracked
                 track: NOWHERE,
             }
         }
-        tracker::Tracked::Stays(_, r) => {
+        Err(Unmoved::Stays(_, r)) => {
             let w = said(r);
             Tracked {
                 number: w.number,

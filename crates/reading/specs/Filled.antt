@@ -5,7 +5,7 @@ use Rattle.std.proofs.lemmas.List.Edits.{sets, sets-eq}
 use Rattle.numbers.specs.Numbers.{Spliced}
 use Rattle.arrows.specs.Arrows.{table_of}
 use Rattle.layout.specs.Layout.{body_at}
-use Rattle.bodies.specs.declared.Counts.{Counts as CountsOf}
+use Rattle.tables.specs.declared.Counts.{Counts as CountsOf}
 use Rattle.bodies.specs.Tables.{tabled, length_tabled}
 use Rattle.bodies.specs.Bodies.{set_at, sets_in, label_at, labels_in}
 use Rattle.reading.specs.Reading.{counts_of, arrows_on, labels_part, own_steps, block_read}

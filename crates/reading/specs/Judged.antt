@@ -1,5 +1,5 @@
 -- The answer test by test: a test that fails gives its number, one that is passed leaves those after it. Assumes nothing.
-use Rattle.std.specs.Prelude.{ℕ, zero, suc, ◌+◌, ◌≤◌, ◌<◌, ◌≡◌, refl, List, ◌∷◌, Bool, true, false, not, ◌&&◌, cond, replicate}
+use Rattle.std.specs.Prelude.{ℕ, zero, suc, ◌+◌, ◌≤◌, ◌<◌, ◌≡◌, refl, List, ◌∷◌, Bool, true, false, not, ◌&&◌, cond, replicate, Ok, Err}
 use Rattle.std.proofs.Common.{sym, ap, ap₂, ◌∙◌, arith}
 use Rattle.sets.specs.Sets.{meet, empty, every}
 use Rattle.moves.specs.First.{Verdict}
@@ -13,7 +13,6 @@ use Rattle.arrows.specs.Loops.{filled, filled_all}
 use Rattle.arrows.specs.Rows.{kind_rows}
 use Rattle.reading.specs.Reading.{counts_of, arrows_on, block_read, kinds_right, read_verdict}
 use Rattle.reading.specs.Laws.{read_kind}
-use Rattle.std.specs.Prelude.{Ok, Err}
 
 -- what the reader finds: the first refusal that holds; and where none does, the table holds the arrows
 pub record Judged (s table : List ℕ) (v : Verdict) : Type 0 where

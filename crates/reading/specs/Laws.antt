@@ -5,7 +5,6 @@ use mathlib.Core.List.{List, [], ◌++◌, tail}
 use Rattle.std.proofs.Math.Seq.{take_at, drop_at}
 use Rattle.std.proofs.lemmas.Bool.{not-false}
 use Rattle.sets.specs.Truth.{and_left, and_right}
-use Rattle.moves.specs.First.{Verdict}
 use Rattle.moves.specs.First.{first}
 use Rattle.moves.specs.Given.{clear_head, clear_tail}
 use Rattle.tables.specs.Tables.{table_at}
@@ -16,7 +15,7 @@ use Rattle.arrows.specs.Rows.{kind_rows}
 use Rattle.layout.specs.Layout.{contents_fit, follows, offset_at, size_at, body_at}
 use Rattle.layout.specs.Laws.{body_inside}
 use Rattle.layout.specs.Lists.{length_part}
-use Rattle.bodies.specs.declared.Counts.{Counts as CountsOf}
+use Rattle.tables.specs.declared.Counts.{Counts as CountsOf}
 use Rattle.bodies.specs.Tables.{length_tabled}
 use Rattle.bodies.specs.Bodies.{set_at, sets_in, label_at, labels_in}
 use Rattle.reading.specs.declared.Form.{Form}

@@ -9,7 +9,7 @@ use Rattle.tables.specs.Tables.{counts_fit, kinds_apart}
 use Rattle.rules.specs.Graph.{Graph, graph_of}
 use Rattle.arrows.specs.Arrows.{Arrow, arrows_in, link_in_order, table_of}
 use Rattle.layout.specs.Layout.{contents_fit, size_at, body_at}
-use Rattle.bodies.specs.declared.Counts.{Counts as CountsOf}
+use Rattle.tables.specs.declared.Counts.{Counts as CountsOf}
 use Rattle.bodies.specs.Bodies.{counts_in, marking_in, sets_in, labels_in, role_sets_fit, actions_fit}
 use Rattle.reading.specs.declared.Form.{Form}
 

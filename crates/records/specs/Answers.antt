@@ -1,15 +1,16 @@
 -- What the calls answer: the table "Numbers on the door" for each, in its order, and the answer.
-use Rattle.std.specs.Prelude.{ℕ, List, [], ◌∷◌, not, ◌&&◌, cond, leb}
+use Rattle.std.specs.Prelude.{ℕ, List, [], ◌∷◌, not, ◌&&◌, cond, leb, Result, Ok, Err}
 use Rattle.moves.specs.declared.Marking.{Marking}
+use Rattle.moves.specs.declared.Refusal.{Refusal}
 use Rattle.moves.specs.declared.Refusal.TheVariants.{Counts, Outside, IllFormed, NotApplied}
-use Rattle.moves.specs.First.{Verdict}
-use Rattle.moves.specs.First.{Line, first, number_of}
-use Rattle.moves.specs.Move.{within1to, marking_fits, no_marking}
+use Rattle.moves.specs.First.{Verdict, Line, first, number_of}
+use Rattle.moves.specs.Move.{Move, denied, within1to, marking_fits, no_marking}
 use Rattle.records.specs.declared.Record.{Record}
-use Rattle.moves.specs.Move.{Move}
 use Rattle.records.specs.Records.{applies, gives, well_formed, join}
-use Rattle.std.specs.Prelude.{Ok, Err}
-use Rattle.moves.specs.Move.{denied}
+
+-- a record, or why there is none
+abbrev pub Recorded : Type 0
+Recorded = Result Record Refusal
 
 -- a record where nothing is against it; a refusal has no place for one
 unfoldable pub recorded_of : Verdict → Record → Recorded

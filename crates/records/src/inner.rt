@@ -4,20 +4,13 @@ ghost use Rattle.moves.specs.Move.{within1to};
 ghost use Rattle.records.specs.Answers.{applied_on, the_application};
 ghost use Rattle.records.specs.Records.{applies, gives, well_formed, compose, sorted, tidy, join};
 
-use crate::{Applied, Record};
-use moves::{Marking, NONE, Refusal};
+use crate::Record;
+use moves::{Denied, Marking, Refusal};
 
 // The record that no marking suits.
 pub const NEVER: Record = Record {
     never: true,
-    needin: 0,
-    needex: 0,
-    needout: 0,
-    done: 0,
-    dueset: 0,
-    dueclear: 0,
-    inset: 0,
-    inclear: 0,
+    ..Record::IDENTITY
 };
 
 // Can a graph have n steps?
@@ -27,6 +20,7 @@ pub fn counts(n: u64) -> bool
     (1 <= n) & (n <= 64)
 }
 
+#[tactic(auto, using(crate::specs::WellFormed::well_formed_sum))]
 pub fn well_formed(n: u64, r: Record) -> bool
     requires { n ≤ 64 }
     ensures { result ≡ well_formed n r }
@@ -50,6 +44,7 @@ pub fn well_formed(n: u64, r: Record) -> bool
 }
 
 // Does the record apply?
+#[tactic(auto, using(crate::specs::Laws::applies_lacks))]
 pub fn suits(r: Record, m: Marking) -> bool
     ensures { result ≡ applies r m }
 {
@@ -76,7 +71,10 @@ pub fn applied(r: Record, m: Marking) -> Result<Marking, Denied>
     ensures { result ≡ applied_on r m }
 {
     if !suits(r, m) {
-        return Err(Denied { marking: m, refusal: Refusal::NotApplied });
+        return Err(Denied {
+            marking: m,
+            refusal: Refusal::NotApplied,
+        });
     }
     Ok(given(r, m))
 }
@@ -87,7 +85,7 @@ pub fn applied_at(n: u64, r: Record, m: Marking) -> Result<Marking, Denied>
     ensures { result ≡ the_application n r m }
 {
     if !moves::inner::fits(n, m) {
-        return Err(Denied { marking: NONE, refusal: Refusal::Outside });
+        return Err(Denied::from(Refusal::Outside));
     }
     applied(r, m)
 }
@@ -132,12 +130,14 @@ pub fn in_order(r: Record) -> Record
     }
 }
 
+#[tactic(auto, unfolding(crate::specs::Records::tidy))]
 pub fn tidied(r: Record) -> Record
     ensures { result ≡ tidy r }
 {
     if r.never { NEVER } else { in_order(r) }
 }
 
+#[tactic(auto, unfolding(crate::specs::Records::join))]
 pub fn joined(a: Record, b: Record) -> Record
     ensures { result ≡ join a b }
 {

@@ -4,7 +4,7 @@
 ghost use Rattle.std.specs.Prelude.{◌≡◌};
 ghost use Rattle.records.specs.Answers.{the_join, the_application};
 
-use moves::{Marking, NONE, Refusal};
+use moves::{Denied, Marking, Refusal};
 
 pub mod inner;
 
@@ -22,20 +22,6 @@ pub struct Record {
     pub inclear: u64,
 }
 
-// A record, or why there is none. A refusal holds no record.
-#[derive(Clone, Copy)]
-pub enum Recorded {
-    Made(Record),
-    Refused(Refusal),
-}
-
-// A record applied, with the marking after; or refused, with the marking handed in (below 11: an empty one).
-#[derive(Clone, Copy)]
-pub enum Applied {
-    Gives(Marking),
-    Refused(Marking, Refusal),
-}
-
 impl Record {
     // The record of the empty journal.
     pub const IDENTITY: Record = Record {
@@ -51,6 +37,7 @@ impl Record {
     };
 
     // This record, then the other, for n steps. Refusals 2, 10.
+    #[tactic(auto, unfolding(crate::specs::Answers::the_join, crate::specs::Answers::recorded_of, moves::specs::First::first))]
     pub fn join(self, other: Record, n: u64) -> Result<Record, Refusal>
         ensures { result ≡ the_join n self other }
     {
@@ -69,13 +56,13 @@ impl Record {
         ensures { result ≡ the_application n self m }
     {
         if !inner::counts(n) {
-            return Err(Denied { marking: NONE, refusal: Refusal::Counts });
+            return Err(Denied::from(Refusal::Counts));
         }
         if !moves::inner::fits(n, m) {
-            return Err(Denied { marking: NONE, refusal: Refusal::Outside });
+            return Err(Denied::from(Refusal::Outside));
         }
         if !inner::well_formed(n, self) {
-            return Err(Denied { marking: NONE, refusal: Refusal::IllFormed });
+            return Err(Denied::from(Refusal::IllFormed));
         }
         inner::applied(self, m)
     }

@@ -1,10 +1,9 @@
 -- A job with its first marking has exactly one sheet of six bodies: a list of bytes with these says them if and only if it is what is
 -- written of them. Every part of a sheet is made of numbers as bytes, and of arrows whose kinds and steps are below 64. Assumes that a
 -- block has 404 words.
-use Rattle.std.specs.Prelude.{ℕ, zero, suc, ◌+◌, ◌/◌, ◌%◌, ◌≤◌, ◌≡◌, ◌↔◌, List, [], ◌∷◌, ◌++◌, map, Bool, true, false, length, get_or}
+use Rattle.std.specs.Prelude.{ℕ, zero, suc, ◌+◌, ◌/◌, ◌%◌, ◌≤◌, ◌≡◌, ◌↔◌, List, [], ◌∷◌, ◌++◌, map, Bool, true, false, length, get_or, Ok}
 use Rattle.std.proofs.Common.{sym, ap, ◌∙◌, subst, arith}
 use Rattle.moves.specs.declared.Marking.{Marking}
-use Rattle.moves.specs.First.{Verdict}
 use Rattle.moves.specs.First.{first}
 use Rattle.tables.specs.Tables.{row}
 use Rattle.rules.specs.Graph.{Graph, graph_of}
@@ -18,7 +17,6 @@ use Rattle.writing.specs.Writing.{arrow_table, bodies_of, sheet_bytes, content_l
 use Rattle.rounds.specs.Says.{Says}
 use Rattle.rounds.specs.Read.{read_written}
 use Rattle.rounds.specs.Write.{sheet_six, one_sheet}
-use Rattle.std.specs.Prelude.{Ok}
 
 -- ---- what is written is bytes
 

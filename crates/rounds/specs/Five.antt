@@ -1,8 +1,7 @@
 -- A sheet of five bodies says what the sheet of six bodies of its graph says. Nothing is against what was read of it, so that it can be
 -- written with six, and what was written is read back; and its graph has every step for its own action. Assumes nothing.
-use Rattle.std.specs.Prelude.{ℕ, ◌<◌, ◌≡◌, List, Bool, false, cond}
+use Rattle.std.specs.Prelude.{ℕ, ◌<◌, ◌≡◌, List, Bool, false, cond, Ok}
 use Rattle.std.proofs.Common.{ap, ◌∙◌, arith, lt-ltb}
-use Rattle.moves.specs.First.{Verdict}
 use Rattle.tables.specs.Tables.{row}
 use Rattle.rules.specs.Graph.{action_of}
 use Rattle.bodies.specs.Tables.{row_tabled}
@@ -14,7 +13,6 @@ use Rattle.writing.specs.Writing.{sheet_bytes}
 use Rattle.rounds.specs.Says.{Says}
 use Rattle.rounds.specs.Read.{read_written}
 use Rattle.rounds.specs.Write.{five_actions, read_content}
-use Rattle.std.specs.Prelude.{Ok}
 
 -- a sheet of either form reads as what is written of it does
 pub five_as_six : (s : List ℕ) → read_verdict s ≡ Ok tt → Says (sheet_bytes (graph_in s) (first_of s)) (block_read s) (first_of s)

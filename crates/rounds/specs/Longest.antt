@@ -1,13 +1,12 @@
 -- The longest sheet that is written has 37,147 bytes, the shortest 64. Every part but the arrows has a length by the counts; a table has
 -- at most 64 arrows from each of 64 steps, and includes and excludes, which share no pair, have together no more than one table. One graph
 -- reaches it. A sheet of five bodies that is read has at most 37,077, since the reader asks for that. Assumes nothing.
-use Rattle.std.specs.Prelude.{ℕ, zero, suc, ◌+◌, ◌*◌, ◌≤◌, ◌<◌, ◌≡◌, refl, List, ◌∷◌, ◌++◌, true, false, length, replicate}
+use Rattle.std.specs.Prelude.{ℕ, zero, suc, ◌+◌, ◌*◌, ◌≤◌, ◌<◌, ◌≡◌, refl, List, ◌∷◌, ◌++◌, true, false, length, replicate, Ok}
 use Rattle.std.proofs.Common.{sym, ap, ◌∙◌, subst, true≢false, arith}
 use Rattle.sets.specs.Sets.{has, full, meet, empty, every}
 use Rattle.sets.specs.Truth.{and_intro}
 use Rattle.sets.specs.Laws.{has_meet, empty_members, every_at}
 use Rattle.moves.specs.declared.Marking.{Marking}
-use Rattle.moves.specs.First.{Verdict}
 use Rattle.moves.specs.First.{first}
 use Rattle.moves.specs.Move.{no_marking}
 use Rattle.tables.specs.Tables.{row, keeps, labels_fit}
@@ -22,7 +21,6 @@ use Rattle.reading.specs.Laws.{clear_right, form_five}
 use Rattle.writing.specs.Writing.{arrow_table, sheet_bytes, content_lines}
 use Rattle.writing.specs.Laws.{Fitting, clear_fitting, graph_clear, turned_of, table_kept, kind_lies}
 use Rattle.writing.specs.Parts.{arrows_out, length_out, sheet_length}
-use Rattle.std.specs.Prelude.{Ok}
 
 -- two tables that share no pair have no more arrows than one may have
 count_apart : (n : ℕ) (p q : ℕ → ℕ) → ((a : ℕ) → a < n → empty (meet (p a) (q a)) ≡ true) → count_of n p + count_of n q ≤ 64 * n

@@ -1,6 +1,6 @@
 -- Each number is given exactly when the table says. The numbers of both tables go up, so that the first line that holds has the lowest
 -- number that holds: it is given exactly if its line holds and none before it. Assumes nothing.
-use Rattle.std.specs.Prelude.{ℕ, ◌<◌, ◌≡◌, refl, ◌↔◌, List, true, false, not, ◌&&◌, length, ltb}
+use Rattle.std.specs.Prelude.{ℕ, ◌<◌, ◌≡◌, refl, ◌↔◌, List, true, false, not, ◌&&◌, length, ltb, Ok, Err}
 use Rattle.std.proofs.Math.Path.{ap}
 use Rattle.moves.specs.declared.Marking.{Marking}
 use Rattle.moves.specs.First.{Verdict}
@@ -11,9 +11,8 @@ use Rattle.moves.specs.Move.{marking_fits}
 use Rattle.moves.specs.Given.{holds, ascends, Lowest, given_exactly, nothing_exactly}
 use Rattle.reading.specs.Reading.{graph_in, layout_fits, counts_right, bodies_match, sets_inside, arrows_right, read_lines, read_verdict}
 use Rattle.writing.specs.Writing.{sheet_bytes}
-use Rattle.sheet.specs.Sheet.{write_lines, write_verdict, written_of, the_written, number_of_written, length_of_written}
+use Rattle.sheet.specs.Sheet.{write_lines, write_verdict, answer_of, the_written, number_of_written, length_of_written}
 use Rattle.sets.specs.Truth.{or_false}
-use Rattle.std.specs.Prelude.{Ok, Err}
 
 -- ---- reading
 
@@ -61,8 +60,8 @@ write_up : (g : Graph) (m : Marking) (room : ℕ) → ascends 0 (write_lines g m
 unfolding ascends number_of
 write_up g m room = refl
 
-written_of_lem : (v : Verdict) (size : ℕ) → number_of_written (written_of v size) ≡ number_of_verdict v
-unfolding number_of_written written_of number_of_verdict
+written_of_lem : (v : Verdict) (size : ℕ) → number_of_written (answer_of v size) ≡ number_of_verdict v
+unfolding number_of_written answer_of number_of_verdict
 written_of_lem (Ok _) size = refl
 written_of_lem (Err r) size = refl
 
@@ -96,5 +95,5 @@ module _ (g : Graph) (m : Marking) (room : ℕ) where
   written_number = written_of_lem (write_verdict g m room) (length (sheet_bytes g m))
 
   pub written_length : write_verdict g m room ≡ Ok tt → length_of_written (the_written g m room) ≡ length (sheet_bytes g m)
-  unfolding length_of_written written_of
-  written_length e = ap (λ (v : Verdict). length_of_written (written_of v (length (sheet_bytes g m)))) e
+  unfolding length_of_written answer_of
+  written_length e = ap (λ (v : Verdict). length_of_written (answer_of v (length (sheet_bytes g m)))) e

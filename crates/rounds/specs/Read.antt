@@ -1,12 +1,11 @@
 -- Reading what was written gives the job and its first marking. The contents of a sheet lead to the bodies that it was laid out from; each
 -- body is read back; and what stands for writing (2, 4, 6) is what the reader asks for (1 to 6). Assumes that a block has 404 words, as
 -- every lent one has.
-use Rattle.std.specs.Prelude.{ℕ, ◌*◌, ◌^◌, ◌≤◌, ◌<◌, ◌≡◌, List, [], ◌∷◌, ◌++◌, true, length, get_or}
+use Rattle.std.specs.Prelude.{ℕ, ◌*◌, ◌^◌, ◌≤◌, ◌<◌, ◌≡◌, List, [], ◌∷◌, ◌++◌, true, length, get_or, Ok}
 use Rattle.std.proofs.Common.{sym, ap, ap₂, ◌∙◌, subst, lt_of_lt_of_le, arith, pow_mono, eq-eqb}
 use Rattle.std.proofs.lemmas.Bool.{not-false}
 use Rattle.sets.specs.Truth.{and_left, and_intro}
 use Rattle.moves.specs.declared.Marking.{Marking}
-use Rattle.moves.specs.First.{Verdict}
 use Rattle.moves.specs.First.{first}
 use Rattle.moves.specs.Given.{clear_head}
 use Rattle.moves.specs.Inside.{Inside, fits_inside}
@@ -20,7 +19,7 @@ use Rattle.arrows.specs.Places.{arrows_in_spelt, length_spelt}
 use Rattle.layout.specs.Layout.{start, follows, contents_fit, offset_at, size_at, body_at}
 use Rattle.layout.specs.Lists.{length_part}
 use Rattle.layout.specs.Laws.{bodies_from, laid_fits, laid_bodies}
-use Rattle.bodies.specs.declared.Counts.{Counts}
+use Rattle.tables.specs.declared.Counts.{Counts}
 use Rattle.bodies.specs.Bodies.{counts_body, counts_in, marking_body, marking_in, roles_body, sets_in, role_sets_fit}
 use Rattle.bodies.specs.Bodies.{labels_body, labels_in, actions_fit}
 use Rattle.bodies.specs.Laws.{length_counts, length_marking, length_rows}
@@ -36,7 +35,6 @@ use Rattle.bodies.specs.Markings.{marking_read}
 use Rattle.rounds.specs.Bodies.{counts_read, rows_read, kept_roles, roles_fit_lem, kept_labels, labels_rows, labels_fit_lem}
 use Rattle.rounds.specs.Arrows.{table_fit, table_read}
 use Rattle.rounds.specs.Longest.{below_longest, shortest}
-use Rattle.std.specs.Prelude.{Ok}
 
 -- the contents fit, and lead to the bodies of the graph and the marking
 record Carries (g : Graph) (m : Marking) (s : List ℕ) : Type 0 where

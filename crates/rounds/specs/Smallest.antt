@@ -1,9 +1,8 @@
 -- The smallest sheet is the sheet of its graph, both ways; and the smallest sheet of five bodies, that of document 01, is read as the same
 -- graph. Each side computes. Assumes nothing.
-use Rattle.std.specs.Prelude.{ℕ, ◌≡◌, refl, List, [], ◌∷◌, ◌++◌, length, replicate}
+use Rattle.std.specs.Prelude.{ℕ, ◌≡◌, refl, List, [], ◌∷◌, ◌++◌, length, replicate, Ok}
 use Rattle.sets.specs.Sets.{has, every}
 use Rattle.moves.specs.declared.Marking.{Marking}
-use Rattle.moves.specs.First.{Verdict}
 use Rattle.moves.specs.First.{first}
 use Rattle.tables.specs.Tables.{keeps, labels_fit}
 use Rattle.rules.specs.Graph.{graph_of, sets_fit}
@@ -15,7 +14,6 @@ use Rattle.bodies.specs.Bodies.{rows_body, role_sets_fit, actions_fit}
 use Rattle.reading.specs.Reading.{form_of, labels_part, own_steps, layout_fits, read_verdict, block_read}
 use Rattle.writing.specs.Writing.{sheet_bytes, content_lines}
 use Rattle.rounds.specs.Says.{Says}
-use Rattle.std.specs.Prelude.{Ok}
 
 -- 06 01 1F 00 04 00 02 23 00 18 00 03 3B 00 02 00 04 3D 00 02 00 05 3F 00 00 00 06 3F 00 01 00,
 -- then 01 01 01 01, sixteen bytes 00, 01 and seven 00, 01 00, 01 00, 00

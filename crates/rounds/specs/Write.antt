@@ -1,7 +1,7 @@
 -- Writing what was read gives the bytes, if it had six bodies, so that a job with its first marking has one sheet of six. A sheet whose
 -- contents fit is laid out from its bodies; each body is what is written of what it says; and nothing is against what was read of a sheet
 -- that nothing is against, of either form. Assumes that a sheet is made of bytes.
-use Rattle.std.specs.Prelude.{ℕ, ◌*◌, ◌%◌, ◌≤◌, ◌<◌, ◌≡◌, refl, ◌↔◌, Bool, false, ◌&&◌, get_or, drop}
+use Rattle.std.specs.Prelude.{ℕ, ◌*◌, ◌%◌, ◌≤◌, ◌<◌, ◌≡◌, refl, ◌↔◌, Bool, false, ◌&&◌, get_or, drop, Ok}
 use Rattle.std.proofs.Common.{sym, ap₂, ◌∙◌, arith}
 use Rattle.std.proofs.Math.Path.{ap, subst}
 use mathlib.Core.List.{List, [], ◌∷◌, ◌++◌}
@@ -10,7 +10,6 @@ use Rattle.std.proofs.Math.ListN.{length}
 use borrow.Author.Tests.{not-false}
 use Rattle.sets.specs.Truth.{and_left, and_right, and_intro}
 use Rattle.moves.specs.declared.Marking.{Marking}
-use Rattle.moves.specs.First.{Verdict}
 use Rattle.moves.specs.First.{first}
 use Rattle.moves.specs.Given.{clear_head, clear_tail}
 use Rattle.moves.specs.Move.{marking_fits}
@@ -33,7 +32,6 @@ use Rattle.reading.specs.Laws.{Right, Placed, clear_right, part_length, body_len
 use Rattle.reading.specs.Laws.{form_six, form_five, labels_six, labels_five, own_six, own_five}
 use Rattle.reading.specs.Laws.{read_arrows, read_kind, read_allows, read_holds, read_labels}
 use Rattle.writing.specs.Writing.{arrow_table, bodies_of, sheet_bytes, content_lines}
-use Rattle.sheet.specs.Sheet.{Written}
 use Rattle.sheet.specs.Sheet.{the_written, room_after}
 use Rattle.sheet.specs.Laws.{clear_after}
 use Rattle.rounds.specs.Says.{Says}
@@ -42,7 +40,6 @@ use Rattle.rounds.specs.Bodies.{counts_written, rows_written, roles_kept}
 use Rattle.rounds.specs.Bodies.{labels_rows, labels_kept, labels_own}
 use Rattle.rounds.specs.Arrows.{filled_kept}
 use Rattle.rounds.specs.Read.{read_written}
-use Rattle.std.specs.Prelude.{Ok}
 
 -- what is written has six bodies
 pub sheet_six : (g : Graph) (m : Marking) → is_six (sheet_bytes g m) ≡ true

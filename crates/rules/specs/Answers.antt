@@ -49,7 +49,7 @@ after_entry g m e = after (row_of g e.person e.step.0) m e.step.0
 
 -- any entry on anything: is it allowed?
 unfoldable pub the_asked : Graph → Marking → Entry → Verdict
-the_asked g m e = (first (move_lines g m e))
+the_asked g m e = first (move_lines g m e)
 
 -- and taken: ask, and if it is allowed the marking after
 unfoldable pub the_move : Graph → Marking → Entry → Move
@@ -74,10 +74,10 @@ number_of_ending (Err r) = number_of r
 -- ---- the same on a graph, and then a marking, that are as they should be: what the calls go by inside
 
 unfoldable pub asked_on : Graph → Marking → Entry → Verdict
-asked_on g m e = (first (marking_lines g m ++ entry_lines g m e))
+asked_on g m e = first (marking_lines g m ++ entry_lines g m e)
 
 unfoldable pub entry_asked : Graph → Marking → Entry → Verdict
-entry_asked g m e = (first (entry_lines g m e))
+entry_asked g m e = first (entry_lines g m e)
 
 unfoldable pub entry_move : Graph → Marking → Entry → Move
 entry_move g m e = move_of (entry_asked g m e) m (after_entry g m e)

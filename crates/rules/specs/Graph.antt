@@ -3,6 +3,7 @@ use Rattle.std.specs.Prelude.{ℕ, List, [], ◌∷◌, Bool, not, ◌&&◌}
 use Rattle.moves.specs.declared.Refusal.TheVariants.{Counts, Beyond, Both}
 use Rattle.moves.specs.First.{Verdict}
 use Rattle.moves.specs.First.{Line, first}
+use Rattle.tables.specs.declared.Counts.{Counts as CountsOf}
 use Rattle.tables.specs.Tables.{row, counts_fit, roles_fit, labels_fit, arrow_rows_fit, kinds_apart, table_at}
 
 -- a job: four counts, tables of sets, and the action of each step. Row b of `conditions` is what b waits for; row a of the next three is
@@ -19,6 +20,9 @@ pub record Graph : Type 0 where
   pub allows : List ℕ
   pub holds : List ℕ
   pub labels : List ℕ
+
+abbrev pub counts_of : Graph → CountsOf
+counts_of g = record { steps = g.steps; people = g.people; roles = g.roles; actions = g.actions }
 
 -- ---- a job as it is lent: one block of 404 words. No other place knows where a table stands
 

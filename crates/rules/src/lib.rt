@@ -2,12 +2,12 @@
 #![tactic(auto)]
 
 ghost use Rattle.std.specs.Prelude.{◌≡◌};
-ghost use Rattle.rules.specs.Graph.{graph_of, graph_verdict};
+ghost use Rattle.rules.specs.Graph.{graph_of, counts_of, graph_verdict};
 ghost use Rattle.rules.specs.Answers.{the_asked, the_move, the_ending};
 
 use crate::inner::{ask_on, finished_on, take_asked};
 use moves::{Denied, Entry, Marking, Refusal};
-use tables::{arrows_checked, counts_fit, labels_fit, roles_fit};
+use tables::{Counts, Kinds, labels_fit, roles_fit};
 
 pub mod inner;
 
@@ -38,27 +38,42 @@ pub enum Ending {
     Open,
 }
 
+// The counts of the job, whatever they are.
+pub fn counts(g: &Job) -> Counts
+    ensures { result ≡ counts_of (graph_of g.now) }
+{
+    Counts {
+        steps: g[0],
+        people: g[1],
+        roles: g[2],
+        actions: g[3],
+    }
+}
+
 // Is this a graph? Refusals 2, 4, 6.
 pub fn check(g: &Job) -> Result<(), Refusal>
     ensures { result ≡ graph_verdict (graph_of g.now) }
 {
-    let steps = g[0];
-    let people = g[1];
-    let roles = g[2];
-    let actions = g[3];
-    if !counts_fit(steps, people, roles, actions) {
+    let c = counts(g);
+    if !c.fit() {
         return Err(Refusal::Counts);
     }
     let w = &g[..];
-    let arrows = arrows_checked(
-        steps,
-        &w[CONDITIONS..RESPONSES],
-        &w[RESPONSES..INCLUDES],
-        &w[INCLUDES..EXCLUDES],
-        &w[EXCLUDES..ALLOWS],
+    let kinds = Kinds {
+        conditions: &w[CONDITIONS..RESPONSES],
+        responses: &w[RESPONSES..INCLUDES],
+        includes: &w[INCLUDES..EXCLUDES],
+        excludes: &w[EXCLUDES..ALLOWS],
+    };
+    let arrows = kinds.checked(c.steps);
+    let named = roles_fit(
+        c.actions,
+        c.people,
+        c.roles,
+        &w[ALLOWS..HOLDS],
+        &w[HOLDS..LABELS],
     );
-    let named = roles_fit(actions, people, roles, &w[ALLOWS..HOLDS], &w[HOLDS..LABELS]);
-    if !((named & labels_fit(steps, actions, &w[LABELS..WORDS])) & arrows.fit) {
+    if !((named & labels_fit(c.steps, c.actions, &w[LABELS..WORDS])) & arrows.fit) {
         return Err(Refusal::Beyond);
     }
     if !arrows.apart {

@@ -33,12 +33,12 @@ room_fits j p s r f room =
 pub asked_next : (g : Graph) (m m' : Marking) (k : ℕ) (j : List ℕ) (p s r : ℕ) → the_run g m j ≡ Ok (ended m' k) → length j + 3 ≤ 65535
     → the_run g m (j ++ p ∷ s ∷ r ∷ []) ≡ next_of k m' (the_asked g m' (entry_of p s r)) (after_entry g m' (entry_of p s r))
 unfolding and_then run_from go_on entries the_move move_of next_of
-asked_next g m m' k j p s r ended room =
-    let all = ended_passes g m m' k j ended in
+asked_next g m m' k j p s r e room =
+    let all = ended_passes g m m' k j e in
     let ready : Runnable g m j = all.0 in
     let ran : run_from g m 0 (entries j) ≡ Ok (ended m' k) =
     passes_run g m m' 0 (entries j) all.2
-    ∙ ap ((λ x. Ok (ended m' x))) (let count : k ≡ length (entries j) = all.1 in let z : 0 + length (entries j) ≡ k = omega arith in z) in
+    ∙ ap (λ (x : ℕ). Ok (ended m' x)) (let count : k ≡ length (entries j) = all.1 in let z : 0 + length (entries j) ≡ k = omega arith in z) in
     run_clear g m (j ++ p ∷ s ∷ r ∷ []) ready.clear (room_fits j p s r ready.long room) ready.within
     ∙ ap (run_from g m 0) (entries_append j (p ∷ s ∷ r ∷ []) (fits_threes j ready.long))
     ∙ run_append g m 0 (entries j) (entry_of p s r ∷ [])

@@ -1,7 +1,7 @@
 -- What runs are like: one after the other, where they stop, and the marking they leave.
 -- Assumes nothing.
 use Rattle.std.specs.Prelude.{ℕ, zero, suc, ◌+◌, ◌%◌, ◌≤◌, ◌<◌, ◌≡◌, refl, List, [], ◌∷◌, ◌++◌, Bool, true, false, length, get_or, take}
-use Rattle.std.proofs.Common.{sym, ap, ◌∙◌, subst, arith, add-zero, length-append, pow_pos, eq-eqb, le-leb}
+use Rattle.std.proofs.Common.{sym, ap, ap₂, ◌∙◌, subst, arith, add-zero, length-append, pow_pos, eq-eqb, le-leb}
 use Rattle.std.proofs.lemmas.Bool.{not-false}
 use Rattle.sets.specs.Truth.{and_intro}
 use Rattle.rules.specs.Graph.{Graph, graph_lines, graph_verdict}
@@ -24,7 +24,7 @@ use Rattle.journal.specs.Run.{go_on, run_from, length_lines, run_lines, ran_of, 
 use Rattle.journal.specs.Laws.{fits_threes, fits_most, entries_append, run_graph, run_outside, run_clear}
 use Rattle.std.specs.Prelude.{Ok, Err}
 use Rattle.moves.specs.Move.{denied}
-use Rattle.journal.specs.Ran.{ended}
+use Rattle.journal.specs.Ran.{ended, same_ended, same_stopped}
 use Rattle.journal.specs.Ran.{stopped}
 
 -- ---- one after the other
@@ -78,7 +78,9 @@ pub record StopsAt (g : Graph) (m : Marking) (es : List Entry) (k : ℕ) (r : Re
 pub run_passes : (g : Graph) (m m' : Marking) (k n : ℕ) (es : List Entry) → run_from g m k es ≡ Ok (ended m' n) → (n ≡ k + length es)
     × Passes g m es m'
 unfolding run_from go_on Passes
-run_passes g m m' k n [] e = (let a : k ≡ n = cc in let z : n ≡ k + 0 = omega arith in z, cc)
+run_passes g m m' k n [] e =
+    let same = same_ended m m' k n e in
+    (let a : k ≡ n = same.1 in let z : n ≡ k + 0 = omega arith in z, same.0)
 run_passes g m m' k n (x ∷ rest) e = go (the_move g m x) refl (λ next. run_passes g next m' (k + 1) n rest)
   where
     go : (o : Move) → the_move g m x ≡ o
@@ -94,11 +96,11 @@ run_passes g m m' k n (x ∷ rest) e = go (the_move g m x) refl (λ next. run_pa
 
 pub passes_run : (g : Graph) (m m' : Marking) (k : ℕ) (es : List Entry) → Passes g m es m' → run_from g m k es ≡ Ok (ended m' (k + length es))
 unfolding run_from go_on Passes
-passes_run g m m' k [] p = ap (λ (x : Marking). Ok (ended x k)) p ∙ ap ((λ x. Ok (ended m' x))) (sym (add-zero k))
+passes_run g m m' k [] p = ap (λ (x : Marking). Ok (ended x k)) p ∙ ap (λ (x : ℕ). Ok (ended m' x)) (sym (add-zero k))
 passes_run g m m' k (e ∷ rest) p =
     ap (λ (o : Move). go_on k m o (λ y. run_from g y (k + 1) rest)) p.1
     ∙ passes_run g p.0 m' (k + 1) rest p.2
-    ∙ ap ((λ x. Ok (ended m' x))) (let z : k + 1 + length rest ≡ k + suc (length rest) = omega arith in z)
+    ∙ ap (λ (x : ℕ). Ok (ended m' x)) (let z : k + 1 + length rest ≡ k + suc (length rest) = omega arith in z)
 
 -- entries in two parts: all pass exactly if the first do, and the second from where those end
 pub passes_parts : (g : Graph) (m m' : Marking) (a c : List Entry) → Passes g m (a ++ c) m'
@@ -146,13 +148,12 @@ run_stops g m m' k n r (x ∷ rest) clear within e = go (the_move g m x) refl (�
         )
     go (Err w) q more =
         let s : Err (stopped k m w.refusal) ≡ Err (stopped n m' r) = ap (λ (o : Move). go_on k m o (λ y. run_from g y (k + 1) rest)) (sym q) ∙ e in
-        let here : k ≡ n = cc in
-        let why : w.refusal ≡ r = cc in
-        let left : m ≡ m' = cc in
-        let same : m ≡ w.marking = (entry_back g m w.marking x w.refusal (sym by_entry ∙ q)).1 in (
+        let parts = same_stopped k n m m' w.refusal r s in
+        let here : k ≡ n = parts.0 in
+        let back : m ≡ w.marking = (entry_back g m w.marking x w.refusal (sym by_entry ∙ q)).1 in (
           0,
           let z : n ≡ k + 0 = omega arith in z,
-          record { small = (let z : 0 < suc (length rest) = omega arith in z); before = left; refused = λ d. cc },
+          record { small = (let z : 0 < suc (length rest) = omega arith in z); before = parts.1; refused = λ d. ap (λ (y : Marking). the_move g y x) (sym parts.1) ∙ q ∙ ap Err (ap₂ denied (sym back ∙ parts.1) parts.2) },
         )
 
 pub stops_run : (g : Graph) (m m' : Marking) (k i : ℕ) (r : Refusal) (es : List Entry) → StopsAt g m es i r m'
@@ -238,7 +239,7 @@ stopped_first g m m' n r j e high = go (first (run_lines g m j)) refl
         (known, subst (λ (x : ℕ). StopsAt g m (entries j) x r m') (let z : s.0 ≡ n = omega arith in z) s.2)
     go (Err p) q =
         let s : Err (stopped 0 no_marking p) ≡ Err (stopped n m' r) = ap (λ (v : Verdict). ran_of v (run_from g m 0 (entries j))) (sym q) ∙ e in
-        let same : p ≡ r = cc in
+        let same : p ≡ r = (same_stopped 0 n no_marking m' p r s).2 in
         let low : number_of r < 11 = subst (λ (x : Refusal). number_of x < 11) same (first_below 11 (run_lines g m j) p refl q) in
         absurd (let w : ⊥ = omega arith in w)
 

@@ -73,7 +73,7 @@ pub fn within(n: u64, x: u64) -> bool
     x <= full(n)
 }
 
-// The lowest step of x; 64 where x is empty.
+// The lowest step of x; 64, and no `None`, where x is empty: the definition `lowest` is a number there too.
 pub fn lowest(x: u64) -> u8
     ensures { result ≡ lowest 64 x }
 {

@@ -1,25 +1,20 @@
 -- The answers by what is found against the sheet, the content and the room. Assumes nothing.
-use Rattle.std.specs.Prelude.{ℕ, ◌+◌, ◌≤◌, ◌<◌, ◌≡◌, List, [], ◌∷◌, ◌++◌, Bool, true, false, cond, length}
+use Rattle.std.specs.Prelude.{ℕ, ◌+◌, ◌≤◌, ◌<◌, ◌≡◌, List, [], ◌∷◌, ◌++◌, Bool, true, false, cond, length, Result, Ok, Err}
 use Rattle.std.proofs.Math.Path.{sym, ap}
 use Rattle.std.proofs.Common.{◌∙◌, arith, lt-ltb, le-ltb}
 use Rattle.std.proofs.Math.ListN.{drop}
 use Rattle.std.proofs.lemmas.List.Edits.{sets-eq}
 use Rattle.std.proofs.Math.Dec.{ltb}
 use Rattle.moves.specs.declared.Marking.{Marking}
-use Rattle.moves.specs.First.{Verdict}
 use Rattle.moves.specs.declared.Refusal.{Refusal}
 use Rattle.moves.specs.declared.Refusal.TheVariants.{Room}
-use Rattle.moves.specs.First.{first}
+use Rattle.moves.specs.First.{Verdict, first}
 use Rattle.moves.specs.Given.{first_clear, first_refused}
-use Rattle.moves.specs.Move.{no_marking}
 use Rattle.rules.specs.Graph.{Graph}
 use Rattle.numbers.specs.Numbers.{Spliced}
 use Rattle.reading.specs.Reading.{first_of, read_verdict, block_read}
 use Rattle.writing.specs.Writing.{sheet_bytes, content_lines}
-use Rattle.sheet.specs.Sheet.{Answer}
-use Rattle.sheet.specs.Sheet.{Written}
-use Rattle.sheet.specs.Sheet.{if_clear, the_answer, write_verdict, written_of, the_written, room_after}
-use Rattle.std.specs.Prelude.{Ok, Err}
+use Rattle.sheet.specs.Sheet.{Written, if_clear, answer_of, the_answer, write_verdict, the_written, room_after}
 
 pub if_clear_lem : {A : Type 0} (v : Verdict) (a b : A) → v ≡ Ok tt → if_clear v a b ≡ a
 unfolding if_clear
@@ -32,38 +27,30 @@ if_refused v r a b e = ap (λ (w : Verdict). if_clear w a b) e
 -- ---- reading
 
 -- what is left behind: the answer, and the block
-pub record Read (s old new : List ℕ) (r : Answer) : Type 0 where
+pub record Read (s old new : List ℕ) (r : Result Marking Refusal) : Type 0 where
   pub answer : r ≡ the_answer s
   pub block : new ≡ if_clear (read_verdict s) (block_read s) old
 
--- a verdict that is no clear one is handed out with an empty marking, and the block stays
-pub read_refused : (s old : List ℕ) (v : Verdict) → v ≡ read_verdict s → if_clear v false true ≡ true
-    → Read s old old (record { verdict = v; first = no_marking })
-unfolding if_clear
-read_refused s old v e t = go v e t
-  where
-    go : (w : Verdict) → w ≡ read_verdict s → if_clear w false true ≡ true → Read s old old (record { verdict = w; first = no_marking })
-    go (Ok _) p q = absurd (let z : ◌≡◌ {A = ℕ} 0 1 = cc in let x : ⊥ = omega arith in x)
-    go (Err r) p q = record {
-      answer = λ i. record { verdict = p i; first = sym (if_refused (read_verdict s) r (first_of s) no_marking (sym p)) i };
-      block = sym (if_refused (read_verdict s) r (block_read s) old (sym p));
-    }
+-- a refusal is handed out, and the block stays
+pub read_refused : (s old : List ℕ) (r : Refusal) → read_verdict s ≡ Err r → Read s old old (Err r)
+unfolding answer_of
+read_refused s old r e = record {
+  answer = sym (ap (λ (v : Verdict). answer_of v (first_of s)) e);
+  block = sym (if_refused (read_verdict s) r (block_read s) old e);
+}
 
 -- any other verdict is clear
 pub not_refused : (v : Verdict) → if_clear v false true ≡ false → v ≡ Ok tt
 unfolding if_clear
-not_refused (Ok _) e = ap (λ (b : Bool). (Ok tt)) e
+not_refused (Ok _) e = ap (λ (b : Bool). Ok tt) e
 not_refused (Err r) e = absurd (let z : ◌≡◌ {A = ℕ} 0 1 = cc in let x : ⊥ = omega arith in x)
 
-pub read_clear : (s old new : List ℕ) (v : Verdict) (m : Marking) → v ≡ read_verdict s → v ≡ Ok tt → m ≡ first_of s
-    → new ≡ block_read s
-    → Read s old new (record { verdict = v; first = m })
-read_clear s old new v m e c f b =
-    let clear : read_verdict s ≡ (Ok tt) = sym e ∙ c in
-    record {
-      answer = λ i. record { verdict = e i; first = (f ∙ sym (if_clear_lem (read_verdict s) (first_of s) no_marking clear)) i };
-      block = b ∙ sym (if_clear_lem (read_verdict s) (block_read s) old clear);
-    }
+pub read_clear : (s old new : List ℕ) (m : Marking) → read_verdict s ≡ Ok tt → m ≡ first_of s → new ≡ block_read s → Read s old new (Ok m)
+unfolding answer_of
+read_clear s old new m e f b = record {
+  answer = ap Ok f ∙ sym (ap (λ (v : Verdict). answer_of v (first_of s)) e);
+  block = b ∙ sym (if_clear_lem (read_verdict s) (block_read s) old e);
+}
 
 -- ---- writing
 
@@ -78,9 +65,9 @@ module _ (g : Graph) (m : Marking) (old : List ℕ) where
 
   -- by the verdict
   refused_room : (r : Refusal) → write_verdict g m (length old) ≡ Err r → Wrote old (Err r)
-  unfolding written_of
+  unfolding answer_of
   refused_room r v = record {
-    answer = sym (ap (λ (w : Verdict). written_of w size) v);
+    answer = sym (ap (λ (w : Verdict). answer_of w size) v);
     room = sym (if_refused (write_verdict g m (length old)) r (sheet_bytes g m ++ drop size old) old v);
   }
 
@@ -103,9 +90,9 @@ module _ (g : Graph) (m : Marking) (old : List ℕ) where
     -- with room enough the length is answered, and the room begins with the sheet
     pub clear_after : size ≤ length old
         → (the_written g m (length old) ≡ Ok size) × (room_after g m old ≡ sheet_bytes g m ++ drop size old)
-    unfolding written_of
+    unfolding answer_of
     clear_after h = (
-      ap (λ (w : Verdict). written_of w size) (room_clear h),
+      ap (λ (w : Verdict). answer_of w size) (room_clear h),
       if_clear_lem (write_verdict g m (length old)) (sheet_bytes g m ++ drop size old) old (room_clear h),
     )
 

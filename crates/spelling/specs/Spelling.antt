@@ -1,15 +1,15 @@
 -- The laws of a record's bytes: reading undoes writing and writing undoes reading, and equal records have equal bytes. Assumes nothing.
-use Rattle.std.specs.Prelude.{ℕ, zero, suc, ◌+◌, ◌-◌, ◌*◌, ◌%◌, ◌^◌, ◌≤◌, ◌<◌, ◌≡◌, refl, List, [], ◌∷◌, ◌++◌, Bool, true, false, ◌&&◌, cond, length, get_or, drop, eqb, leb}
-use Rattle.std.proofs.Common.{sym, ap, ap₂, ◌∙◌, subst, append_assoc, arith, lt_of_lt_of_le, length-drop, take-append-drop, drop-drop, pow_mono, eq-eqb, le-leb, eqb-true, leb-true}
+use Rattle.std.specs.Prelude.{ℕ, zero, suc, ◌+◌, ◌-◌, ◌*◌, ◌%◌, ◌^◌, ◌≤◌, ◌<◌, ◌≡◌, refl, List, [], ◌∷◌, ◌++◌, Bool, true, false, ◌&&◌}
+use Rattle.std.specs.Prelude.{cond, length, get_or, take, drop, eqb, leb}
+use Rattle.std.proofs.Common.{sym, ap, ap₂, ◌∙◌, subst, append_assoc, arith, lt_of_lt_of_le, length-drop, take-append-drop, take-suc}
+use Rattle.std.proofs.Common.{add-one, length-append, length-take-le, drop-drop, pow_mono, eq-eqb, le-leb, eqb-true, leb-true}
 use Rattle.std.proofs.lemmas.List.Edits.{sets-eq}
 use Rattle.sets.specs.Truth.{and_left, and_right}
-use Rattle.moves.specs.First.{Verdict}
-use Rattle.moves.specs.First.{first}
+use Rattle.moves.specs.First.{Verdict, first}
 use Rattle.moves.specs.Move.{within1to}
 use Rattle.numbers.specs.Numbers.{number, bytes, Bytes, Spliced}
 use Rattle.numbers.specs.Laws.{drop_bytes, length_bytes, number_bytes, bytes_number, spliced_then, spliced_length}
 use Rattle.records.specs.declared.Record.{Record}
-use Rattle.records.specs.Answers.{Recorded}
 use Rattle.records.specs.Records.{sets_of, well_formed}
 use Rattle.records.specs.WellFormed.{Bounded, well_formed_lem}
 use Rattle.spelling.specs.Bytes.{flag, sets_spelt, record_bytes, record_at, readable, the_reading, to_bytes_lines, room_of, Writing}
@@ -43,18 +43,42 @@ room_behind w x k at old new r s h =
     let same : length new ≡ length old = spliced_length (bytes w x) at old new r s in
     omega arith
 
-length_spelt : (a b c d : ℕ) → length (sets_spelt (a ∷ b ∷ c ∷ d ∷ [])) ≡ 32
-unfolding sets_spelt bytes
-length_spelt a b c d = refl
-
--- behind four sets
-pub room_behind_four : (a b c d k at : ℕ) (old new : List ℕ) (r : ℕ) → Spliced (sets_spelt (a ∷ b ∷ c ∷ d ∷ [])) at old new r
-    → at + (32 + k) ≤ length old → r + k ≤ length new
-room_behind_four a b c d k at old new r s h =
-    let n : r ≡ at + length (sets_spelt (a ∷ b ∷ c ∷ d ∷ [])) = s.next in
-    let l : length (sets_spelt (a ∷ b ∷ c ∷ d ∷ [])) ≡ 32 = length_spelt a b c d in
-    let same : length new ≡ length old = spliced_length (sets_spelt (a ∷ b ∷ c ∷ d ∷ [])) at old new r s in
+-- a set takes eight bytes
+pub length_spelt : (xs : List ℕ) → length (sets_spelt xs) ≡ 8 * length xs
+unfolding sets_spelt
+length_spelt [] = refl
+length_spelt (x ∷ xs) =
+    let both : length (bytes 8 x ++ sets_spelt xs) ≡ length (bytes 8 x) + length (sets_spelt xs) =
+    length-append (bytes 8 x) (sets_spelt xs) in
+    let one : length (bytes 8 x) ≡ 8 = length_bytes 8 x in
+    let rest : length (sets_spelt xs) ≡ 8 * length xs = length_spelt xs in
     omega arith
+
+-- what is left of the room behind sets
+pub room_behind_sets : (xs : List ℕ) (k at : ℕ) (old new : List ℕ) (r : ℕ) → Spliced (sets_spelt xs) at old new r
+    → at + (8 * length xs + k) ≤ length old → r + k ≤ length new
+room_behind_sets xs k at old new r s h =
+    let n : r ≡ at + length (sets_spelt xs) = s.next in
+    let l : length (sets_spelt xs) ≡ 8 * length xs = length_spelt xs in
+    let same : length new ≡ length old = spliced_length (sets_spelt xs) at old new r s in
+    omega arith
+
+-- and behind the first k of them
+pub room_behind_first : (xs : List ℕ) (k j at : ℕ) (old new : List ℕ) (r : ℕ) → Spliced (sets_spelt (take k xs)) at old new r
+    → k ≤ length xs → at + (8 * k + j) ≤ length old → r + j ≤ length new
+room_behind_first xs k j at old new r s few h =
+    let n : length (take k xs) ≡ k = length-take-le k xs few in
+    room_behind_sets (take k xs) j at old new r s (omega arith)
+
+-- behind the first k sets comes the next
+pub spelt_next : (xs : List ℕ) (k at : ℕ) (old mid new : List ℕ) (r q : ℕ) → k < length xs → Spliced (sets_spelt (take k xs)) at old mid r
+    → Spliced (bytes 8 (get_or xs k 0)) r mid new q → Spliced (sets_spelt (take (k + 1) xs)) at old new q
+spelt_next xs k at old mid new r q h a b =
+    let x : ℕ = get_or xs k 0 in
+    let one : take (k + 1) xs ≡ take k xs ++ (x ∷ []) = ap (λ (n : ℕ). take n xs) (add-one k) ∙ take-suc xs k 0 h in
+    subst (λ (v : List ℕ). Spliced v at old new q) (sym (ap sets_spelt one ∙ sets_spelt_append (take k xs) (x ∷ [])))
+    (spliced_then (sets_spelt (take k xs)) (sets_spelt (x ∷ [])) at old mid new r q a
+    (spelt_then x [] r mid new new q q b (spelt_none q new)))
 
 pub length_record : (r : Record) → length (record_bytes r) ≡ 65
 unfolding record_bytes sets_spelt bytes
@@ -69,21 +93,15 @@ flag_low r = go r.never
     go true = omega arith
     go false = omega arith
 
--- never, four sets and four sets from the start of the room on are the record's bytes, and the rest of the room
-pub spelt_record : (r : Record) (old one two new : List ℕ) (i j k : ℕ) → 65 ≤ length old
+-- never and the eight sets from the start of the room on are the record's bytes, and the rest of the room
+pub spelt_record : (r : Record) (old one new : List ℕ) (i k : ℕ) → 65 ≤ length old
     → Spliced (bytes 1 (flag r.never)) 0 old one i
-    → Spliced (sets_spelt (r.needin ∷ r.needex ∷ r.needout ∷ r.done ∷ [])) i one two j
-    → Spliced (sets_spelt (r.dueset ∷ r.dueclear ∷ r.inset ∷ r.inclear ∷ [])) j two new k
+    → Spliced (sets_spelt (sets_of r)) i one new k
     → new ≡ record_bytes r ++ drop 65 old
 unfolding record_bytes
-spelt_record r old one two new i j k h a b c =
-    let front : List ℕ = r.needin ∷ r.needex ∷ r.needout ∷ r.done ∷ [] in
-    let back : List ℕ = r.dueset ∷ r.dueclear ∷ r.inset ∷ r.inclear ∷ [] in
-    let both : Spliced (sets_spelt (sets_of r)) i one new k =
-    subst (λ (v : List ℕ). Spliced v i one new k) (sym (sets_spelt_append front back))
-    (spliced_then (sets_spelt front) (sets_spelt back) i one two new j k b c) in
+spelt_record r old one new i k h a b =
     let all : Spliced (record_bytes r) 0 old new k =
-    spliced_then (bytes 1 (flag r.never)) (sets_spelt (sets_of r)) 0 old one new i k a both in
+    spliced_then (bytes 1 (flag r.never)) (sets_spelt (sets_of r)) 0 old one new i k a b in
     let whole : 0 + length (record_bytes r) ≡ 65 = omega (arith, length_record r) in
     all.stored
     ∙ sets-eq (record_bytes r) old 0 (let z : 0 + length (record_bytes r) ≤ length old = omega arith in z)

@@ -5,13 +5,14 @@ ghost use Rattle.std.specs.Prelude.{◌≡◌};
 ghost use Rattle.spelling.specs.Bytes.{the_reading, Writing};
 
 use crate::inner::{record_at, spell};
-use moves::{Refusal, Verdict};
+use moves::Refusal;
+use records::Record;
 use records::inner::{counts, well_formed};
-use records::{Record, Recorded};
 
 pub mod inner;
 
 // The record of n steps that the bytes spell. Refusals 2, 10.
+#[tactic(auto, unfolding(crate::specs::Bytes::the_reading, records::specs::Answers::recorded_of, moves::specs::First::first))]
 pub fn read(n: u64, s: &[u8]) -> Result<Record, Refusal>
     ensures { result ≡ the_reading n s.now }
 {
@@ -32,6 +33,7 @@ pub fn read(n: u64, s: &[u8]) -> Result<Record, Refusal>
 }
 
 // A record of n steps into the first 65 bytes of the room. Refusals 2, 10, 18.
+#[tactic(auto, using(crate::specs::Spelling::writing), unfolding(crate::specs::Bytes::room_of, moves::specs::First::first))]
 pub fn write(n: u64, r: Record, room: &mut [u8]) -> Result<(), Refusal>
     ensures { Writing n r room.old result room.new }
 {

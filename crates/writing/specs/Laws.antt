@@ -1,10 +1,9 @@
 -- What there is to a graph and a marking that nothing is against. Assumes nothing.
-use Rattle.std.specs.Prelude.{ℕ, zero, suc, ◌+◌, ◌*◌, ◌≤◌, ◌<◌, ◌≡◌, refl, List, true, false, ◌&&◌, length}
+use Rattle.std.specs.Prelude.{ℕ, zero, suc, ◌+◌, ◌*◌, ◌≤◌, ◌<◌, ◌≡◌, refl, List, true, false, ◌&&◌, length, Ok, Err}
 use Rattle.std.proofs.Common.{sym, ap, ◌∙◌, subst, arith}
 use Rattle.std.proofs.lemmas.Bool.{not-false}
 use Rattle.sets.specs.Truth.{and_false, and_true, and_left, and_right}
 use Rattle.moves.specs.declared.Marking.{Marking}
-use Rattle.moves.specs.First.{Verdict}
 use Rattle.moves.specs.declared.Refusal.TheVariants.{Counts, Beyond}
 use Rattle.moves.specs.First.{first}
 use Rattle.moves.specs.Given.{clear_head, clear_tail}
@@ -18,7 +17,6 @@ use Rattle.arrows.specs.Arrows.{arrows_body}
 use Rattle.arrows.specs.Rows.{Kept, kind_rows, turned_in}
 use Rattle.arrows.specs.Loops.{body_most}
 use Rattle.writing.specs.Writing.{arrow_table, content_lines}
-use Rattle.std.specs.Prelude.{Ok, Err}
 
 -- ---- what may be against the content
 

@@ -10,22 +10,17 @@ ghost use Rattle.writing.specs.Writing.{content_lines, sheet_bytes};
 ghost use Rattle.writing.specs.Laws.{turned_of};
 ghost use Rattle.writing.specs.Parts.{sizes_of, tables_out, bodies_out, length_out};
 
-use bodies::Counts;
-use moves::{Marking, Refusal, Verdict};
+use moves::{Marking, Refusal};
 use rules::{ALLOWS, CONDITIONS, HOLDS, Job, LABELS, RESPONSES, WORDS};
 
 // Refusals 2, 4, 6.
 pub fn content(g: &Job, m: Marking) -> Result<(), Refusal>
     ensures { result ≡ first (content_lines (graph_of g.now) m) }
 {
-    let steps = g[0];
-    let people = g[1];
-    let roles = g[2];
-    let actions = g[3];
-    if !tables::counts_fit(steps, people, roles, actions) {
+    if !rules::counts(g).fit() {
         return Err(Refusal::Counts);
     }
-    if !moves::inner::fits(steps, m) {
+    if !moves::inner::fits(g[0], m) {
         return Err(Refusal::Beyond);
     }
     rules::check(g)
@@ -90,13 +85,7 @@ fn write_bodies<'a>(
     requires m_in_bounds { at + length (bodies_out (graph_of g.now) m) ≤ length room.old }
     ensures { Spliced (bodies_out (graph_of g.now) m) at room.old room.new result }
 {
-    let c = Counts {
-        steps: g[0],
-        people: g[1],
-        roles: g[2],
-        actions: g[3],
-    };
-    let x = bodies::write_counts(c, room, at);
+    let x = bodies::write_counts(rules::counts(g), room, at);
     let y = bodies::write_marking(m, room, x);
     write_tables(g, turned, room, y)
 }

@@ -1,11 +1,6 @@
 -- `label`: a step's own number, a byte of the body, or nothing past its end. Assumes nothing.
-use Prim.Native.Nat.{◌*◌, ◌≤◌}
-use mathlib.Core.Path.{◌≡◌, sym, ap, ◌∙◌}
-use mathlib.Core.Bool.{Bool, cond}
-use native.Mathlib.Omega.{arith}
+use Rattle.std.proofs.Common.{◌≡◌, ◌*◌, ◌≤◌, Bool, cond, length, sym, ap, ◌∙◌, arith, le-ltb}
 use lib.Dec.{ltb}
-use lib.ListN.{length}
-use borrow.Author.Tests.{lt-ltb, le-ltb}
 use Rattle.bodies.specs.Bodies.{row_in}
 use Rattle.bodies.specs.Laws.{row_past, row_byte}
 use Rattle.bodies.proofs.label.Goals as goal
@@ -17,14 +12,6 @@ by-body : (c : Else-i-own) → let a = c.args in cond (ltb a.i a.own) a.i (row_i
 by-body c =
     let a = c.args in
     ap (λ (b : Bool). cond b a.i (row_in 1 a.body.now a.i)) (le-ltb a.i a.own c.if-i-own.false)
-
-pub returns-then-i-own : goal.returns-then-i-own
-returns-then-i-own c =
-    let a = c.args in
-    sym (ap (λ (b : Bool). cond b a.i (row_in 1 a.body.now a.i)) (lt-ltb a.i a.own c.if-i-own.true))
-
-pub overflow_cast-result : goal.overflow_cast-result
-overflow_cast-result c = omega (arith, c.type_inv.body c.args.i)
 
 pub returns-then-i-body : goal.returns-then-i-body
 returns-then-i-body c =

@@ -1,40 +1,23 @@
 -- `write_marking`: three numbers, one after the other. Assumes nothing.
-use mathlib.Core.Path.{◌≡◌, ◌∙◌}
-use mathlib.Core.List.{◌++◌}
-use native.Mathlib.Omega.{arith}
-use lib.ListN.{length}
+use Rattle.std.proofs.Common.{◌++◌, arith}
 use Rattle.numbers.specs.Numbers.{bytes}
-use Rattle.numbers.specs.Laws.{length_bytes, spliced_length, spliced_then}
+use Rattle.numbers.specs.Laws.{spliced_then}
+use Rattle.numbers.proofs.Parts.{on}
 use Rattle.bodies.proofs.write_marking.Goals as goal
 
 pub put-b-requires : goal.put-b-requires
 put-b-requires c =
-    let a = c.args in
-    let one : length (bytes 8 a.m.done) ≡ 8 = length_bytes 8 a.m.done in
-    omega (arith, c.put-a.ensures.next, spliced_length _ _ _ _ _ c.put-a.ensures)
+    let a = on _ _ _ _ _ _ c.put-a.ensures in
+    omega (arith, a.next, a.same)
 
 pub put-requires : goal.put-requires
 put-requires c =
-    let a = c.args in
-    let one : length (bytes 8 a.m.done) ≡ 8 = length_bytes 8 a.m.done in
-    let two : length (bytes 8 a.m.due) ≡ 8 = length_bytes 8 a.m.due in
-    omega (
-      arith,
-      c.put-a.ensures.next,
-      c.put-b.ensures.next,
-      spliced_length _ _ _ _ _ c.put-a.ensures,
-      spliced_length _ _ _ _ _ c.put-b.ensures,
-    )
-
-pub shape_of-room : goal.shape_of-room
-shape_of-room c = spliced_length _ _ _ _ _ c.put.ensures
-    ∙ spliced_length _ _ _ _ _ c.put-b.ensures
-    ∙ spliced_length _ _ _ _ _ c.put-a.ensures
+    let a = on _ _ _ _ _ _ c.put-a.ensures in
+    let b = on _ _ _ _ _ _ c.put-b.ensures in
+    omega (arith, a.next, a.same, b.next, b.same)
 
 pub returns : goal.returns
 returns c =
     let a = c.args in
-    spliced_then (bytes 8 a.m.done) (bytes 8 a.m.due ++ bytes 8 a.m.included) a.at _ _ _ _ _
-    c.put-a.ensures
-    (spliced_then (bytes 8 a.m.due) (bytes 8 a.m.included) _ _ _ _ _ _
-    c.put-b.ensures c.put.ensures)
+    spliced_then (bytes 8 a.m.done) (bytes 8 a.m.due ++ bytes 8 a.m.included) a.at _ _ _ _ _ c.put-a.ensures
+    (spliced_then (bytes 8 a.m.due) (bytes 8 a.m.included) _ _ _ _ _ _ c.put-b.ensures c.put.ensures)

@@ -5,27 +5,29 @@ use borrow.Author.Rules.{rules}
 use Rattle.cabinet.specs.Cabinet.{arms_fit}
 use Rattle.cabinet.specs.Laws.{arms_low, arms_high, wrong_arms, right_arms}
 use Rattle.cabinet.proofs.write.Goals as goal
-use Rattle.cabinet.proofs.write.Goals.{Else-not-told}
+use Rattle.cabinet.proofs.write.Goals.{Else-not-arms_fit}
 
-pub returns-then-not-told : goal.returns-then-not-told
-returns-then-not-told c =
+pub returns-then-not-arms_fit : goal.returns-then-not-arms_fit
+returns-then-not-arms_fit c =
     let a = c.args in
-    let r = wrong_arms a.arms a.room.now (sym c.arms_fit-told.ensures ∙ c.if-not-told.true) in
+    let r = wrong_arms a.arms a.room.now (sym c.arms_fit.ensures ∙ c.if-not-arms_fit.true) in
     record { value = r.answer; room_after = r.room }
 
 -- past the test the arms fit
-fits : (c : Else-not-told) → arms_fit c.args.arms ≡ true
-fits c = sym c.arms_fit-told.ensures ∙ c.if-not-told.false
+fits : (c : Else-not-arms_fit) → arms_fit c.args.arms ≡ true
+fits c = sym c.arms_fit.ensures ∙ c.if-not-arms_fit.false
 
 pub fill-requires : goal.fill-requires
-fill-requires c = (arms_low _ (fits (goal.at.fill-requires c).Else-not-told), arms_high _ (fits (goal.at.fill-requires c).Else-not-told), search rules)
+fill-requires c =
+    let k = (goal.at.fill-requires c).Else-not-arms_fit in
+    (arms_low _ (fits k), arms_high _ (fits k), search rules)
 
 pub at_first-requires : goal.at_first-requires
-at_first-requires c = arms_high _ (fits (goal.at.at_first-requires c).Else-not-told)
+at_first-requires c = arms_high _ (fits (goal.at.at_first-requires c).Else-not-arms_fit)
 
 pub returns : goal.returns
 returns c =
     let a = c.args in
-    let r = right_arms a.arms a.room.now (fits (goal.at.returns c).Else-not-told) _ _ _ _ c.fill.ensures c.at_first.ensures
+    let r = right_arms a.arms a.room.now (fits (goal.at.returns c).Else-not-arms_fit) _ _ _ _ c.fill.ensures c.at_first.ensures
     c.write.ensures.value c.write.ensures.room_after in
     record { value = r.answer; room_after = r.room }

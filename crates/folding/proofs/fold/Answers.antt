@@ -6,22 +6,23 @@ use Rattle.rules.specs.Graph.{Graph, graph_of, graph_verdict}
 use Rattle.journal.specs.Journal.{length_fits}
 use Rattle.journal.specs.Laws.{fits_threes}
 use Rattle.records.specs.Answers.{Recorded}
+use Rattle.moves.specs.Handed.{handed}
 use Rattle.folding.specs.Answered.{fold_graph, fold_length, fold_clear}
 use Rattle.folding.proofs.fold.Goals as goal
 use Rattle.std.specs.Prelude.{Ok}
 
-pub returns-in-Refused : goal.returns-in-Refused
-returns-in-Refused c =
+pub returns-in_err-check : goal.returns-in_err-check
+returns-in_err-check c =
     let a = c.args in
     let g : Graph = graph_of a.g.now in
-    sym (fold_graph g a.j.now _ (sym c.check-v.ensures ∙ c.in-Refused.is))
+    handed c.from_residual.result _ c.from_residual.ensures.1 ∙ sym (fold_graph g a.j.now _ (sym c.check.ensures ∙ c.in_err-check.was))
 
 pub returns-then-not-length_fits : goal.returns-then-not-length_fits
 returns-then-not-length_fits c =
     let a = c.args in
     let g : Graph = graph_of a.g.now in
-    let clear : graph_verdict g ≡ (Ok tt) = sym c.check-v.ensures
-    ∙ c.in_default.is in
+    let clear : graph_verdict g ≡ (Ok tt) = sym c.check.ensures
+    ∙ c.in_ok-check.was in
     let long : length_fits a.j.now ≡ false = sym c.length_fits.ensures ∙ c.if-not-length_fits.true in
     sym (fold_length g a.j.now clear long)
 
@@ -29,8 +30,8 @@ pub fold_entries-requires : goal.fold_entries-requires
 fold_entries-requires c =
     let a = c.args in
     let g : Graph = graph_of a.g.now in
-    let clear : graph_verdict g ≡ (Ok tt) = sym c.check-v.ensures
-    ∙ c.in_default.is in
+    let clear : graph_verdict g ≡ (Ok tt) = sym c.check.ensures
+    ∙ c.in_ok-check.was in
     let long : length_fits a.j.now ≡ true = sym c.length_fits.ensures ∙ c.if-not-length_fits.false in
     (clear, fits_threes a.j.now long)
 
@@ -38,7 +39,7 @@ pub returns : goal.returns
 returns c =
     let a = c.args in
     let g : Graph = graph_of a.g.now in
-    let clear : graph_verdict g ≡ (Ok tt) = sym c.check-v.ensures
-    ∙ c.in_default.is in
+    let clear : graph_verdict g ≡ (Ok tt) = sym c.check.ensures
+    ∙ c.in_ok-check.was in
     let long : length_fits a.j.now ≡ true = sym c.length_fits.ensures ∙ c.if-not-length_fits.false in
     ap Ok c.fold_entries.ensures ∙ sym (fold_clear g a.j.now clear long)

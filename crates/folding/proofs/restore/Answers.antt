@@ -16,19 +16,22 @@ use Rattle.records.specs.Records.{applies, well_formed}
 use Rattle.folding.specs.Answered.{restore_graph, restore_length, restore_outside, restore_ill, restore_on}
 use Rattle.folding.proofs.restore.Goals as goal
 use Rattle.folding.proofs.restore.Goals.{After-length_fits, Else-not-fits, Else-not-length_fits, Else-not-suits, Else-not-well_formed}
-use Rattle.std.specs.Prelude.{Ok}
+use Rattle.std.specs.Prelude.{Ok, Err}
+use Rattle.std.proofs.lemmas.Result.{err_from_is_err_and}
+use Rattle.journal.specs.declared.Stopped.{Stopped}
 
-pub returns-in-Refused : goal.returns-in-Refused
-returns-in-Refused c =
+pub returns-in_err-check : goal.returns-in_err-check
+returns-in_err-check c =
     let a = c.args in
     let g : Graph = graph_of a.g.now in
-    sym (restore_graph g a.r a.j.now a.m _ (sym c.check-v.ensures ∙ c.in-Refused.is))
+    let out = err_from_is_err_and c.from_residual.result c.from_residual.ensures.1 in
+    out.1 ∙ ap (λ (o : Stopped). Err o) out.2 ∙ sym (restore_graph g a.r a.j.now a.m _ (sym c.check.ensures ∙ c.in_err-check.was))
 
 abbrev graph : After-length_fits → Graph
 graph c = graph_of c.args.g.now
 
 clear : (c : After-length_fits) → graph_verdict (graph c) ≡ Ok tt
-clear c = sym c.check-v.ensures ∙ c.in_default.is
+clear c = sym c.check.ensures ∙ c.in_ok-check.was
 
 long : (c : Else-not-length_fits) → length_fits c.args.j.now ≡ true
 long c = sym c.length_fits.ensures ∙ c.if-not-length_fits.false
@@ -47,7 +50,7 @@ pub returns-then-not-length_fits : goal.returns-then-not-length_fits
 returns-then-not-length_fits c =
     let a = c.args in
     let short : length_fits a.j.now ≡ false = sym c.length_fits.ensures ∙ c.if-not-length_fits.true in
-    sym (restore_length (graph (goal.at.returns-then-not-length_fits c).After-length_fits) a.r a.j.now a.m (clear (goal.at.returns-then-not-length_fits c).After-length_fits) short)
+    ap (λ (o : Stopped). Err o) c.from.ensures ∙ sym (restore_length (graph (goal.at.returns-then-not-length_fits c).After-length_fits) a.r a.j.now a.m (clear (goal.at.returns-then-not-length_fits c).After-length_fits) short)
 
 pub fits-requires : goal.fits-requires
 fits-requires c = (clear_counts (graph (goal.at.fits-requires c).After-length_fits) (clear (goal.at.fits-requires c).After-length_fits)).steps_most
@@ -57,7 +60,7 @@ returns-then-not-fits c =
     let g = graph (goal.at.returns-then-not-fits c).After-length_fits in
     let a = c.args in
     let outside : marking_fits g.steps a.m ≡ false = sym c.fits.ensures ∙ c.if-not-fits.true in
-    sym (restore_outside g a.r a.j.now a.m (clear (goal.at.returns-then-not-fits c).After-length_fits) (long (goal.at.returns-then-not-fits c).Else-not-length_fits) outside)
+    ap (λ (o : Stopped). Err o) c.from-then-not-fits.ensures ∙ sym (restore_outside g a.r a.j.now a.m (clear (goal.at.returns-then-not-fits c).After-length_fits) (long (goal.at.returns-then-not-fits c).Else-not-length_fits) outside)
 
 pub well_formed-requires : goal.well_formed-requires
 well_formed-requires c =
@@ -69,7 +72,7 @@ returns-then-not-well_formed c =
     let g = graph (goal.at.returns-then-not-well_formed c).After-length_fits in
     let a = c.args in
     let ill : well_formed g.steps a.r ≡ false = sym c.well_formed-2.ensures ∙ c.if-not-well_formed.true in
-    sym (restore_ill g a.r a.j.now a.m (clear (goal.at.returns-then-not-well_formed c).After-length_fits) (long (goal.at.returns-then-not-well_formed c).Else-not-length_fits) (within (goal.at.returns-then-not-well_formed c).Else-not-fits) ill)
+    ap (λ (o : Stopped). Err o) c.from-then-not-well_formed.ensures ∙ sym (restore_ill g a.r a.j.now a.m (clear (goal.at.returns-then-not-well_formed c).After-length_fits) (long (goal.at.returns-then-not-well_formed c).Else-not-length_fits) (within (goal.at.returns-then-not-well_formed c).Else-not-fits) ill)
 
 pub returns-then-not-suits : goal.returns-then-not-suits
 returns-then-not-suits c =

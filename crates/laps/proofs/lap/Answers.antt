@@ -1,6 +1,6 @@
 -- `lap`: the graph's refusal, then that of a length, of the marking, of an empty lap; then the decision, which is the answer for the
 -- infinite run. Assumes nothing.
-use mathlib.Core.Path.{◌≡◌, sym, ap₂, ◌∙◌, subst}
+use mathlib.Core.Path.{◌≡◌, sym, ap, ap₂, ◌∙◌, subst}
 use mathlib.Core.Bool.{true, false, ◌&&◌}
 use lib.ListN.{length}
 use lib.Dec.{eqb}
@@ -17,16 +17,20 @@ use Rattle.laps.specs.Laps.{LapAnswer}
 use Rattle.laps.specs.Ways.{lines_graph, lines_length, lines_outside, lines_empty, lines_clear}
 use Rattle.laps.proofs.Right.{decision_right}
 use Rattle.laps.proofs.lap.Goals as goal
-use Rattle.std.specs.Prelude.{Ok}
+use Rattle.std.specs.Prelude.{Ok, Err}
+use Rattle.std.proofs.lemmas.Result.{err_from_is_err_and}
+use Rattle.laps.specs.declared.Broken.{Broken}
 
-pub returns-in-Refused : goal.returns-in-Refused
+pub returns-in_err-check : goal.returns-in_err-check
 unfolding LapAnswer
-returns-in-Refused c =
+returns-in_err-check c =
     let a = c.args in
     let g : Graph = graph_of a.g.now in
     let s = a.stem.now in
     let l = a.lap.now in
-    lines_graph g a.m s l _ (sym c.check-v.ensures ∙ c.in-Refused.is)
+    let out = err_from_is_err_and c.from_residual.result c.from_residual.ensures.1 in
+    subst (LapAnswer g a.m s l) (sym (out.1 ∙ ap (λ (b : Broken). Err b) out.2))
+    (lines_graph g a.m s l _ (sym c.check.ensures ∙ c.in_err-check.was))
 
 pub returns-then-not-length_fits : goal.returns-then-not-length_fits
 unfolding LapAnswer
@@ -35,8 +39,8 @@ returns-then-not-length_fits c =
     let g : Graph = graph_of a.g.now in
     let s = a.stem.now in
     let l = a.lap.now in
-    let clear : graph_verdict g ≡ (Ok tt) = sym c.check-v.ensures
-    ∙ c.in_default.is in
+    let clear : graph_verdict g ≡ (Ok tt) = sym c.check.ensures
+    ∙ c.in_ok-check.was in
     lines_length g a.m s l clear
     (sym (ap₂ ◌&&◌ c.length_fits.ensures c.length_fits-2.ensures) ∙ c.if-not-length_fits.true)
 
@@ -44,8 +48,8 @@ pub fits-requires : goal.fits-requires
 fits-requires c =
     let a = c.args in
     let g : Graph = graph_of a.g.now in
-    let clear : graph_verdict g ≡ (Ok tt) = sym c.check-v.ensures
-    ∙ c.in_default.is in
+    let clear : graph_verdict g ≡ (Ok tt) = sym c.check.ensures
+    ∙ c.in_ok-check.was in
     let b : Counted g.steps g.people g.roles g.actions = clear_counts g clear in
     b.steps_most
 
@@ -56,8 +60,8 @@ returns-then-not-fits c =
     let g : Graph = graph_of a.g.now in
     let s = a.stem.now in
     let l = a.lap.now in
-    let clear : graph_verdict g ≡ (Ok tt) = sym c.check-v.ensures
-    ∙ c.in_default.is in
+    let clear : graph_verdict g ≡ (Ok tt) = sym c.check.ensures
+    ∙ c.in_ok-check.was in
     let long : (length_fits s && length_fits l) ≡ true =
     sym (ap₂ ◌&&◌ c.length_fits.ensures c.length_fits-2.ensures)
     ∙ c.if-not-length_fits.false in
@@ -70,8 +74,8 @@ returns-then-lap-eq0 c =
     let g : Graph = graph_of a.g.now in
     let s = a.stem.now in
     let l = a.lap.now in
-    let clear : graph_verdict g ≡ (Ok tt) = sym c.check-v.ensures
-    ∙ c.in_default.is in
+    let clear : graph_verdict g ≡ (Ok tt) = sym c.check.ensures
+    ∙ c.in_ok-check.was in
     let long : (length_fits s && length_fits l) ≡ true =
     sym (ap₂ ◌&&◌ c.length_fits.ensures
     c.length_fits-2.ensures) ∙ c.if-not-length_fits.false in
@@ -84,8 +88,8 @@ decide-requires c =
     let g : Graph = graph_of a.g.now in
     let s = a.stem.now in
     let l = a.lap.now in
-    let clear : graph_verdict g ≡ (Ok tt) = sym c.check-v.ensures
-    ∙ c.in_default.is in
+    let clear : graph_verdict g ≡ (Ok tt) = sym c.check.ensures
+    ∙ c.in_ok-check.was in
     let long : (length_fits s && length_fits l) ≡ true =
     sym (ap₂ ◌&&◌ c.length_fits.ensures
     c.length_fits-2.ensures) ∙ c.if-not-length_fits.false in
@@ -100,8 +104,8 @@ returns c =
     let s = a.stem.now in
     let l = a.lap.now in
     let clear : graph_verdict g ≡ (Ok tt) =
-    sym c.check-v.ensures
-    ∙ c.in_default.is in
+    sym c.check.ensures
+    ∙ c.in_ok-check.was in
     let long : (length_fits s && length_fits l) ≡ true =
     sym (ap₂ ◌&&◌ c.length_fits.ensures
     c.length_fits-2.ensures) ∙ c.if-not-length_fits.false in

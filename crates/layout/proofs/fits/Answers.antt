@@ -4,28 +4,10 @@ use mathlib.Core.Path.{◌≡◌, sym, ap, ap₂, ◌∙◌}
 use mathlib.Core.Bool.{Bool, ◌&&◌}
 use native.Mathlib.Omega.{arith}
 use lib.ListN.{get_or}
-use borrow.Author.Rules.{rules}
-use borrow.Author.Tests.{eq-eqb, ne_eqb}
-use Rattle.layout.specs.Layout.{start, size_at, follows}
+use borrow.Author.Tests.{eq-eqb}
+use Rattle.layout.specs.Layout.{size_at, follows}
 use Rattle.layout.specs.Loops.{follows_more, follows_done}
 use Rattle.layout.proofs.fits.Goals as goal
-
-pub overflow_cast-s : goal.overflow_cast-s
-overflow_cast-s c = omega (arith, c.type_inv.s 0)
-
-pub returns-then-s-count : goal.returns-then-s-count
-returns-then-s-count c =
-    let a = c.args in
-    sym (ap (λ (b : Bool). b && follows a.count 0 (start a.count) a.s.now)
-    (ne_eqb (get_or a.s.now 0 0) a.count c.if-s-count.true))
-
-pub loop-i-init : goal.loop-i-init
-loop-i-init c =
-    let a = c.args in (
-      search rules,
-      search rules,
-      ap (λ (k : ℕ). follows k 0 (start a.count) a.s.now) (let z : a.count ≡ a.count - 0 = omega arith in z),
-    )
 
 pub returns-then-not-line_fits : goal.returns-then-not-line_fits
 returns-then-not-line_fits c =
@@ -33,26 +15,19 @@ returns-then-not-line_fits c =
     let l = c.loop-i in
     let byte : get_or a.s.now 0 0 ≡ a.count = c.if-s-count.false in
     sym (ap₂ (λ (b f : Bool). b && f) (eq-eqb (get_or a.s.now 0 0) a.count byte)
-    (l.invariant.2 ∙ follows_more a.count l.i l.at a.s.now c.loop-i-test.true
+    (l.invariant.left ∙ follows_more a.count l.i l.at a.s.now c.loop-i-test.true
     ∙ ap (λ (b : Bool). b && follows (a.count - (l.i + 1)) (l.i + 1) (l.at + size_at a.s.now l.i) a.s.now)
     (sym c.line_fits.ensures ∙ c.if-not-line_fits.true)))
-
-pub overflow_add-at-in-loop-i : goal.overflow_add-at-in-loop-i
-overflow_add-at-in-loop-i c =
-    let a = c.args in
-    let l = c.loop-i in
-    omega (arith, c.size-at.ensures.1)
 
 pub loop-i-preserved : goal.loop-i-preserved
 loop-i-preserved c =
     let a = c.args in
-    let l = c.loop-i in (
-      search rules,
-      omega (arith, c.size-at.ensures.1),
-      l.invariant.2 ∙ follows_more a.count l.i l.at a.s.now c.loop-i-test.true
+    let l = c.loop-i in record {
+      low = omega (arith, c.size-at.ensures.1);
+      left = l.invariant.left ∙ follows_more a.count l.i l.at a.s.now c.loop-i-test.true
           ∙ ap₂ (λ (b : Bool) (n : ℕ). b && follows (a.count - (l.i + 1)) (l.i + 1) (l.at + n) a.s.now)
-          (sym c.line_fits.ensures ∙ c.if-not-line_fits.false) (sym c.size-at.ensures.0),
-    )
+          (sym c.line_fits.ensures ∙ c.if-not-line_fits.false) (sym c.size-at.ensures.0);
+    }
 
 pub returns : goal.returns
 returns c =
@@ -60,4 +35,4 @@ returns c =
     let l = c.loop-i in
     let byte : get_or a.s.now 0 0 ≡ a.count = c.if-s-count.false in
     sym (ap₂ (λ (b f : Bool). b && f) (eq-eqb (get_or a.s.now 0 0) a.count byte)
-    (l.invariant.2 ∙ follows_done a.count l.i l.at a.s.now c.loop-i-test.false))
+    (l.invariant.left ∙ follows_done a.count l.i l.at a.s.now c.loop-i-test.false))

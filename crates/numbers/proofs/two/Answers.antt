@@ -1,9 +1,9 @@
 -- `two`: a byte, and 256 times the next. Assumes nothing.
-use mathlib.Core.Path.{sym, ◌∙◌}
+use Rattle.std.proofs.Common.{arith}
 use Rattle.numbers.specs.Laws.{number_two}
 use Rattle.numbers.proofs.two.Goals as goal
 
 pub returns : goal.returns
 returns c =
     let a = c.args in
-    c.together.ensures ∙ sym (number_two a.at a.s.now)
+    omega (arith, c.from_le_bytes.ensures, number_two a.at a.s.now)

@@ -42,11 +42,12 @@ body-requires c = body_there _ (placed (goal.at.body-requires c).Start) 2 (lit< 
 
 pub read_roles-y-requires : goal.read_roles-y-requires
 read_roles-y-requires c =
-    let s = sheet (goal.at.read_roles-y-requires c).Start in
-    let rows = table-rows (goal.at.read_roles-y-requires c).Start in
+    let k = (goal.at.read_roles-y-requires c).Start in
+    let s = sheet k in
+    let rows = table-rows k in
     let whole = c.requires.1 in
     let stored = counts_stored c.args.block.now c.counts-c.result in
-    let n : length (body_at s 2) ≡ 2 * (counts_of s).actions = body_length s (placed (goal.at.read_roles-y-requires c).Start) 2 (lit< tt) ∙ (right (goal.at.read_roles-y-requires c).Start).matched.actions_match in (
+    let n : length (body_at s 2) ≡ 2 * (counts_of s).actions = body_length s (placed k) 2 (lit< tt) ∙ (right k).matched.actions_match in (
       search rules,
       omega (arith, ap length c.body.ensures),
       omega (arith, spliced_length _ _ _ _ _ stored, c.copy-x.ensures.next, spliced_length _ _ _ _ _ c.copy-x.ensures),
@@ -57,12 +58,13 @@ body-requires-2 c = body_there _ (placed (goal.at.body-requires-2 c).Start) 3 (l
 
 pub read_roles-z-requires : goal.read_roles-z-requires
 read_roles-z-requires c =
-    let s = sheet (goal.at.read_roles-z-requires c).Start in
-    let rows = table-rows (goal.at.read_roles-z-requires c).Start in
+    let k = (goal.at.read_roles-z-requires c).Start in
+    let s = sheet k in
+    let rows = table-rows k in
     let whole = c.requires.1 in
     let stored = counts_stored c.args.block.now c.counts-c.result in
     let n : length (body_at s 3) ≡ 2 * (counts_of s).people =
-    body_length s (placed (goal.at.read_roles-z-requires c).Start) 3 (lit< tt) ∙ (right (goal.at.read_roles-z-requires c).Start).matched.people_match in (
+    body_length s (placed k) 3 (lit< tt) ∙ (right k).matched.people_match in (
       search rules,
       omega (arith, ap length c.body-2.ensures),
       omega (
@@ -75,13 +77,11 @@ read_roles-z-requires c =
       ),
     )
 
-pub labels_part-requires : goal.labels_part-requires
-labels_part-requires c = placed (goal.at.labels_part-requires c).Start
-
-pub own_steps-requires : goal.own_steps-requires
-own_steps-requires c =
+pub invariant_of-sheet : goal.invariant_of-sheet
+invariant_of-sheet c =
+    let r = right (goal.at.invariant_of-sheet c).Start in
     let said = c.counts-c.ensures in
-    record { placed = placed (goal.at.own_steps-requires c).Start; said = said; counted = subst CountedOf (sym said) (right (goal.at.own_steps-requires c).Start).opened.counted }
+    record { opened = record { placed = r.opened.placed; said = said; counted = subst CountedOf (sym said) r.opened.counted } }
 
 pub read_labels-requires : goal.read_labels-requires
 read_labels-requires c =

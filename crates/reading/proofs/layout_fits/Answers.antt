@@ -39,46 +39,51 @@ returns-then-s-lt29 c =
 pub returns-then-s-f : goal.returns-then-s-f
 unfolding layout_fits
 returns-then-s-f c =
-    let s = sheet (goal.at.returns-then-s-f c).After-form_of-f in
-    simp (lt-leb (form_of s).least (length s) (subst (λ (f : Form). length (sheet (goal.at.returns-then-s-f c).After-form_of-f) < f.least) c.form_of-f.ensures c.if-s-f.true))
+    let k = (goal.at.returns-then-s-f c).After-form_of-f in
+    let s = sheet k in
+    simp (lt-leb (form_of s).least (length s) (subst (λ (f : Form). length (sheet k) < f.least) c.form_of-f.ensures c.if-s-f.true))
 
 pub returns-then-f-s : goal.returns-then-f-s
 unfolding layout_fits
 returns-then-f-s c =
-    let s = sheet (goal.at.returns-then-f-s c).After-form_of-f in
+    let k = goal.at.returns-then-f-s c in
+    let s = sheet k.After-form_of-f in
     simp (
-      le-leb (form_of s).least (length s) (long (goal.at.returns-then-f-s c).Else-s-f),
-      lt-leb (length s) (form_of s).most (subst (λ (f : Form). f.most < length (sheet (goal.at.returns-then-f-s c).After-form_of-f)) c.form_of-f.ensures c.if-f-s.true),
+      le-leb (form_of s).least (length s) (long k.Else-s-f),
+      lt-leb (length s) (form_of s).most (subst (λ (f : Form). f.most < length (sheet k.After-form_of-f)) c.form_of-f.ensures c.if-f-s.true),
     )
 
 pub fits-requires : goal.fits-requires
 fits-requires c =
-    let s = sheet (goal.at.fits-requires c).After-form_of-f in
-    let f : Formed (form_of (sheet (goal.at.fits-requires c).After-form_of-f)) = form_formed s in
-    let few : (form_of (sheet (goal.at.fits-requires c).After-form_of-f)).bodies ≤ 6 = f.few in
-    let room : 1 + 5 * (form_of (sheet (goal.at.fits-requires c).After-form_of-f)).bodies ≤ (form_of (sheet (goal.at.fits-requires c).After-form_of-f)).least = f.room in
-    let least : (form_of (sheet (goal.at.fits-requires c).After-form_of-f)).least ≤ length (sheet (goal.at.fits-requires c).After-form_of-f) = long (goal.at.fits-requires c).Else-s-f in
-    subst (λ (g : Form). (g.bodies < 256) × (1 + 5 * g.bodies ≤ length (sheet (goal.at.fits-requires c).After-form_of-f))) (sym c.form_of-f.ensures)
+    let k = goal.at.fits-requires c in
+    let s = sheet k.After-form_of-f in
+    let f : Formed (form_of (sheet k.After-form_of-f)) = form_formed s in
+    let few : (form_of (sheet k.After-form_of-f)).bodies ≤ 6 = f.few in
+    let room : 1 + 5 * (form_of (sheet k.After-form_of-f)).bodies ≤ (form_of (sheet k.After-form_of-f)).least = f.room in
+    let least : (form_of (sheet k.After-form_of-f)).least ≤ length (sheet k.After-form_of-f) = long k.Else-s-f in
+    subst (λ (g : Form). (g.bodies < 256) × (1 + 5 * g.bodies ≤ length (sheet k.After-form_of-f))) (sym c.form_of-f.ensures)
     (omega arith, omega arith)
 
 pub returns-then-not-fits : goal.returns-then-not-fits
 unfolding layout_fits
 returns-then-not-fits c =
-    let s = sheet (goal.at.returns-then-not-fits c).After-form_of-f in
+    let k = goal.at.returns-then-not-fits c in
+    let s = sheet k.After-form_of-f in
     simp (
-      le-leb (form_of s).least (length s) (long (goal.at.returns-then-not-fits c).Else-s-f),
-      le-leb (length s) (form_of s).most (short (goal.at.returns-then-not-fits c).Else-f-s),
-      sym (asked (goal.at.returns-then-not-fits c).After-fits) ∙ c.if-not-fits.true,
+      le-leb (form_of s).least (length s) (long k.Else-s-f),
+      le-leb (length s) (form_of s).most (short k.Else-f-s),
+      sym (asked k.After-fits) ∙ c.if-not-fits.true,
     )
 
 pub returns : goal.returns
 unfolding layout_fits
 returns c =
-    let s = sheet (goal.at.returns c).After-form_of-f in
+    let k = goal.at.returns c in
+    let s = sheet k.After-form_of-f in
     simp (
-      le-leb (form_of s).least (length s) (long (goal.at.returns c).Else-s-f),
-      le-leb (length s) (form_of s).most (short (goal.at.returns c).Else-f-s),
-      sym (asked (goal.at.returns c).After-fits) ∙ c.if-not-fits.false,
+      le-leb (form_of s).least (length s) (long k.Else-s-f),
+      le-leb (length s) (form_of s).most (short k.Else-f-s),
+      sym (asked k.After-fits) ∙ c.if-not-fits.false,
       c.size.ensures.0,
       ap (λ (f : Form). f.counts) c.form_of-f.ensures,
       c.size-2.ensures.0,

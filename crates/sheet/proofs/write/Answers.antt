@@ -3,54 +3,58 @@ use mathlib.Core.Path.{◌≡◌, sym, ◌∙◌}
 use native.Mathlib.Omega.{arith}
 use lib.ListN.{length}
 use borrow.Author.Rules.{rules}
-use Rattle.moves.specs.declared.Marking.{Marking}
-use Rattle.moves.specs.First.{Verdict}
 use Rattle.moves.specs.First.{first}
+use Rattle.moves.specs.Handed.{handed}
 use Rattle.rules.specs.Graph.{Graph, graph_of}
 use Rattle.writing.specs.Writing.{sheet_bytes, content_lines}
 use Rattle.writing.specs.Laws.{graph_clear}
 use Rattle.writing.specs.Parts.{sheet_length}
 use Rattle.sheet.specs.Laws.{write_refused, write_short, write_done}
 use Rattle.sheet.proofs.write.Goals as goal
-use Rattle.sheet.proofs.write.Goals.{After-size-size, In_default}
+use Rattle.sheet.proofs.write.Goals.{After-size-size, In_ok-content}
 use Rattle.std.specs.Prelude.{Ok}
 
-pub returns-in-Refused : goal.returns-in-Refused
-returns-in-Refused c =
+pub returns-in_err-content : goal.returns-in_err-content
+returns-in_err-content c =
     let a = c.args in
-    let w = write_refused (graph_of a.g.now) a.m a.room.now _ (sym c.content-v.ensures ∙ c.in-Refused.is) in
-    record { value = w.answer; room_after = w.room }
+    let w = write_refused (graph_of a.g.now) a.m a.room.now _ (sym c.content.ensures ∙ c.in_err-content.was) in
+    record { value = handed c.from_residual.result _ c.from_residual.ensures.1 ∙ w.answer; room_after = w.room }
 
-abbrev graph : In_default → Graph
+-- past the `?` nothing is against the content
+abbrev graph : In_ok-content → Graph
 graph c = graph_of c.args.g.now
 
-abbrev marking : In_default → Marking
-marking c = c.args.m
-
-clear : (c : In_default) → first (content_lines (graph c) (marking c)) ≡ Ok tt
-clear c = sym c.content-v.ensures ∙ c.in_default.is
+clear : (c : In_ok-content) → first (content_lines (graph c) c.args.m) ≡ Ok tt
+clear c = sym c.content.ensures ∙ c.in_ok-content.was
 
 pub turned-turned-requires : goal.turned-turned-requires
-turned-turned-requires c = graph_clear (graph c) (marking c) (clear c)
+turned-turned-requires c = graph_clear (graph c) c.args.m (clear c)
 
 pub size-size-requires : goal.size-size-requires
 size-size-requires c =
-    (graph_clear (graph (goal.at.size-size-requires c).In_default) (marking (goal.at.size-size-requires c).In_default) (clear (goal.at.size-size-requires c).In_default), c.turned-turned.ensures)
+    let k = (goal.at.size-size-requires c).In_ok-content in
+    (graph_clear (graph k) c.args.m (clear k), c.turned-turned.ensures)
 
-size-said : (c : After-size-size) → c.size-size.result ≡ length (sheet_bytes (graph (goal.at.After-size-size c).In_default) (marking (goal.at.After-size-size c).In_default))
-size-said c = c.size-size.ensures ∙ sym (sheet_length (graph (goal.at.After-size-size c).In_default) (marking (goal.at.After-size-size c).In_default))
+size-said : (c : After-size-size) → c.size-size.result ≡ length (sheet_bytes (graph_of c.args.g.now) c.args.m)
+size-said c = c.size-size.ensures ∙ sym (sheet_length (graph_of c.args.g.now) c.args.m)
 
 pub returns-then-room-size : goal.returns-then-room-size
 returns-then-room-size c =
-    let w = write_short (graph (goal.at.returns-then-room-size c).In_default) (marking (goal.at.returns-then-room-size c).In_default) c.args.room.now (clear (goal.at.returns-then-room-size c).In_default) (omega (arith, size-said (goal.at.returns-then-room-size c).After-size-size)) in
+    let k = goal.at.returns-then-room-size c in
+    let w = write_short (graph k.In_ok-content) c.args.m c.args.room.now (clear k.In_ok-content) (omega (arith, size-said k.After-size-size)) in
     record { value = w.answer; room_after = w.room }
 
 pub fill-requires : goal.fill-requires
 fill-requires c =
-    record { g_value = (graph_clear (graph (goal.at.fill-requires c).In_default) (marking (goal.at.fill-requires c).In_default) (clear (goal.at.fill-requires c).In_default), c.turned-turned.ensures); size_value = (c.size-size.ensures, search rules) }
+    let k = (goal.at.fill-requires c).In_ok-content in
+    record {
+      g_value = (graph_clear (graph k) c.args.m (clear k), c.turned-turned.ensures);
+      size_value = (c.size-size.ensures, search rules);
+    }
 
 pub returns : goal.returns
 returns c =
-    let old = c.args.room.now in
-    let w = write_done (graph (goal.at.returns c).In_default) (marking (goal.at.returns c).In_default) old (clear (goal.at.returns c).In_default) _ _ (omega (arith, size-said (goal.at.returns c).After-size-size)) c.fill.ensures in
+    let k = goal.at.returns c in
+    let w = write_done (graph k.In_ok-content) c.args.m c.args.room.now (clear k.In_ok-content) _ _
+    (omega (arith, size-said k.After-size-size)) c.fill.ensures in
     record { value = w.answer; room_after = w.room }

@@ -1,21 +1,12 @@
--- `tables::roles_named`: found is what the rows passed name. Assumes nothing.
-use Rattle.std.proofs.Common.{◌≡◌, ℕ, length, sym, ap, ◌∙◌, arith, rules}
-use Rattle.sets.specs.Sets.{gather, union}
-use Rattle.sets.specs.Laws.{gather_more}
-use Rattle.tables.specs.Tables.{row}
+-- `tables::roles_named`: the fold unites the rows. Assumes nothing.
+use Rattle.std.proofs.Common.{◌≡◌, ◌∙◌, rules}
+use Rattle.std.specs.List.{fold}
+use Rattle.sets.specs.Sets.{union}
+use Rattle.tables.proofs.Folded.{folded}
 use Rattle.tables.proofs.roles_named.Goals as goal
-
-pub loop-i-init : goal.loop-i-init
-unfolding gather
-loop-i-init c = search rules
-
-pub loop-i-preserved : goal.loop-i-preserved
-loop-i-preserved c =
-    let l = c.loop-i in
-    let table = c.args.table.now in
-    (search rules, ap (λ (x : ℕ). union x (row table l.i)) l.invariant.1 ∙ sym (gather_more l.i (row table)))
 
 pub returns : goal.returns
 returns c =
-    let a = c.args in
-    c.loop-i.invariant.1 ∙ ap (λ (k : ℕ). gather k (row a.table.now)) (let e : c.loop-i.i ≡ length a.table.now = omega arith in e)
+    let table = c.args.table.now in
+    let united : c.fold.result ≡ fold (λ a x. union a x) 0 table = search rules in
+    united ∙ folded (λ x. x) table

@@ -49,9 +49,10 @@ overflow_sub-size c = omega (arith, c.requires.size_value.0)
 
 pub write_front-at-requires : goal.write_front-at-requires
 write_front-at-requires c =
-    let few = counted (goal.at.write_front-at-requires c).Start in
-    let most : length (arrows_out (graph (goal.at.write_front-at-requires c).Start)) ≤ 49152 = arrows_most c.args.g.now c.requires.g_value.0 in
-    omega (arith, arrows-left (goal.at.write_front-at-requires c).Start, c.requires.size_value)
+    let k = (goal.at.write_front-at-requires c).Start in
+    let few = counted k in
+    let most : length (arrows_out (graph k)) ≤ 49152 = arrows_most c.args.g.now c.requires.g_value.0 in
+    omega (arith, arrows-left k, c.requires.size_value)
 
 -- the front that is written is that of the sheet
 front_same : (c : Start) → front (sizes_of (graph c).steps (graph c).people (graph c).actions (left c)) ≡ front_out (graph c)
@@ -59,19 +60,21 @@ front_same c = ap (λ (k : ℕ). front (sizes_of (graph c).steps (graph c).peopl
 
 pub write_bodies-requires : goal.write_bodies-requires
 write_bodies-requires c =
+    let k = (goal.at.write_bodies-requires c).Start in
     let m = c.args.m in
-    let whole : length (front_out (graph (goal.at.write_bodies-requires c).Start) ++ bodies_out (graph (goal.at.write_bodies-requires c).Start) m) ≡ length_out (graph (goal.at.write_bodies-requires c).Start) =
-    ap length (sym (sheet_parts (graph (goal.at.write_bodies-requires c).Start) m)) ∙ sheet_length (graph (goal.at.write_bodies-requires c).Start) m in
-    let fits : 0 + length (front_out (graph (goal.at.write_bodies-requires c).Start) ++ bodies_out (graph (goal.at.write_bodies-requires c).Start) m) ≤ length c.args.room.now =
+    let whole : length (front_out (graph k) ++ bodies_out (graph k) m) ≡ length_out (graph k) =
+    ap length (sym (sheet_parts (graph k) m)) ∙ sheet_length (graph k) m in
+    let fits : 0 + length (front_out (graph k) ++ bodies_out (graph k) m) ≤ length c.args.room.now =
     omega (arith, c.requires.size_value) in record {
       g_value = c.requires.g_value;
-      m_in_bounds = room_then (front_out (graph (goal.at.write_bodies-requires c).Start)) (bodies_out (graph (goal.at.write_bodies-requires c).Start) m) _ _ _ _
-          (rw (front_same (goal.at.write_bodies-requires c).Start) at c.write_front-at.ensures) fits;
+      m_in_bounds = room_then (front_out (graph k)) (bodies_out (graph k) m) _ _ _ _
+          (rw (front_same k) at c.write_front-at.ensures) fits;
     }
 
 pub returns : goal.returns
 returns c =
+    let k = (goal.at.returns c).Start in
     let m = c.args.m in
-    rw (sheet_parts (graph (goal.at.returns c).Start) m)
-    (spliced_then (front_out (graph (goal.at.returns c).Start)) (bodies_out (graph (goal.at.returns c).Start) m) 0 _ _ _ _ _ (rw (front_same (goal.at.returns c).Start) at c.write_front-at.ensures)
+    rw (sheet_parts (graph k) m)
+    (spliced_then (front_out (graph k)) (bodies_out (graph k) m) 0 _ _ _ _ _ (rw (front_same k) at c.write_front-at.ensures)
     c.write_bodies.ensures)

@@ -25,7 +25,7 @@ overflow_cast-n c = omega (arith, counted (goal.at.overflow_cast-n c).Start)
 pub size-arrows-requires : goal.size-arrows-requires
 size-arrows-requires c =
     let block = c.args.g.now in
-    let whole : length block ≡ 404 = c.w-1.given in
+    let whole : length block ≡ 404 = omega arith in
     (part_kept block c.requires.0, rows_at 4 256 block (omega arith), c.requires.1 ∙ ap (turned_in (row block 0)) (kinds_joined block))
 
 arrows-said : (c : After-size-arrows) → c.size-arrows.result ≡ length (arrows_out (graph_of c.args.g.now))

@@ -21,7 +21,7 @@ overflow_cast-n c = omega (arith, few (goal.at.overflow_cast-n c).Start)
 
 pub turned-requires : goal.turned-requires
 turned-requires c =
-    let whole : length c.args.g.now ≡ 404 = c.w-1.given in
+    let whole : length c.args.g.now ≡ 404 = omega arith in
     let rows : length (table_at 4 64 c.args.g.now) ≡ 64 = rows_at 4 64 c.args.g.now (omega arith) in
     omega (arith, few (goal.at.turned-requires c).Start)
 

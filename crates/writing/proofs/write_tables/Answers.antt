@@ -16,7 +16,7 @@ use Rattle.bodies.specs.Laws.{length_rows}
 use Rattle.writing.specs.Laws.{part_kept}
 use Rattle.writing.specs.Parts.{allows_out, holds_out, arrows_out, labels_out}
 use Rattle.writing.proofs.write_tables.Goals as goal
-use Rattle.writing.proofs.write_tables.Goals.{After-w-1, Start}
+use Rattle.writing.proofs.write_tables.Goals.{Start}
 
 -- the bodies, of the graph of the block
 abbrev block : Start → List ℕ
@@ -40,26 +40,25 @@ labels c = labels_out (graph c)
 counted : (c : Start) → Counted (graph c).steps (graph c).people (graph c).roles (graph c).actions
 counted c = clear_counts (graph c) c.requires.g_value.0
 
-whole : (c : After-w-1) → length (block (goal.at.After-w-1 c).Start) ≡ 404
-whole c = c.w-1.given
-
 pub write_rows-x-requires : goal.write_rows-x-requires
 write_rows-x-requires c =
-    let few = counted (goal.at.write_rows-x-requires c).Start in
-    let n = whole (goal.at.write_rows-x-requires c).After-w-1 in
-    let rows : length (table_at 260 64 (block (goal.at.write_rows-x-requires c).Start)) ≡ 64 = rows_at 260 64 (block (goal.at.write_rows-x-requires c).Start) (omega arith) in
-    let long : length (allows (goal.at.write_rows-x-requires c).Start) ≡ 2 * (graph (goal.at.write_rows-x-requires c).Start).actions = length_rows 2 (graph (goal.at.write_rows-x-requires c).Start).actions (graph (goal.at.write_rows-x-requires c).Start).allows in
-    omega (arith, room_first (allows (goal.at.write_rows-x-requires c).Start) (holds (goal.at.write_rows-x-requires c).Start ++ (arrows (goal.at.write_rows-x-requires c).Start ++ labels (goal.at.write_rows-x-requires c).Start)) _ _ c.requires.g_in_bounds)
+    let k = (goal.at.write_rows-x-requires c).Start in
+    let few = counted k in
+    let n : length (block k) ≡ 404 = omega arith in
+    let rows : length (table_at 260 64 (block k)) ≡ 64 = rows_at 260 64 (block k) (omega arith) in
+    let long : length (allows k) ≡ 2 * (graph k).actions = length_rows 2 (graph k).actions (graph k).allows in
+    omega (arith, room_first (allows k) (holds k ++ (arrows k ++ labels k)) _ _ c.requires.g_in_bounds)
 
 pub write_rows-y-requires : goal.write_rows-y-requires
 write_rows-y-requires c =
-    let few = counted (goal.at.write_rows-y-requires c).Start in
-    let n = whole (goal.at.write_rows-y-requires c).After-w-1 in
-    let rows : length (table_at 324 16 (block (goal.at.write_rows-y-requires c).Start)) ≡ 16 = rows_at 324 16 (block (goal.at.write_rows-y-requires c).Start) (omega arith) in
-    let long : length (holds (goal.at.write_rows-y-requires c).Start) ≡ 2 * (graph (goal.at.write_rows-y-requires c).Start).people = length_rows 2 (graph (goal.at.write_rows-y-requires c).Start).people (graph (goal.at.write_rows-y-requires c).Start).holds in
-    let rest = room_then (allows (goal.at.write_rows-y-requires c).Start) (holds (goal.at.write_rows-y-requires c).Start ++ (arrows (goal.at.write_rows-y-requires c).Start ++ labels (goal.at.write_rows-y-requires c).Start)) _ _ _ _ c.write_rows-x.ensures
+    let k = (goal.at.write_rows-y-requires c).Start in
+    let few = counted k in
+    let n : length (block k) ≡ 404 = omega arith in
+    let rows : length (table_at 324 16 (block k)) ≡ 16 = rows_at 324 16 (block k) (omega arith) in
+    let long : length (holds k) ≡ 2 * (graph k).people = length_rows 2 (graph k).people (graph k).holds in
+    let rest = room_then (allows k) (holds k ++ (arrows k ++ labels k)) _ _ _ _ c.write_rows-x.ensures
     c.requires.g_in_bounds in
-    omega (arith, room_first (holds (goal.at.write_rows-y-requires c).Start) (arrows (goal.at.write_rows-y-requires c).Start ++ labels (goal.at.write_rows-y-requires c).Start) _ _ rest)
+    omega (arith, room_first (holds k) (arrows k ++ labels k) _ _ rest)
 
 -- ---- the arrows
 pub overflow_cast-steps : goal.overflow_cast-steps
@@ -67,34 +66,37 @@ overflow_cast-steps c = omega (arith, counted (goal.at.overflow_cast-steps c).St
 
 pub write-z-requires : goal.write-z-requires
 write-z-requires c =
-    let n = whole (goal.at.write-z-requires c).After-w-1 in
-    let rest = room_then (allows (goal.at.write-z-requires c).Start) (holds (goal.at.write-z-requires c).Start ++ (arrows (goal.at.write-z-requires c).Start ++ labels (goal.at.write-z-requires c).Start)) _ _ _ _ c.write_rows-x.ensures
+    let k = (goal.at.write-z-requires c).Start in
+    let n : length (block k) ≡ 404 = omega arith in
+    let rest = room_then (allows k) (holds k ++ (arrows k ++ labels k)) _ _ _ _ c.write_rows-x.ensures
     c.requires.g_in_bounds in
-    let left = room_then (holds (goal.at.write-z-requires c).Start) (arrows (goal.at.write-z-requires c).Start ++ labels (goal.at.write-z-requires c).Start) _ _ _ _ c.write_rows-y.ensures rest in
-    let same = ap (λ (t : List ℕ). length (arrows_body t)) (kinds_joined (block (goal.at.write-z-requires c).Start)) in record {
+    let left = room_then (holds k) (arrows k ++ labels k) _ _ _ _ c.write_rows-y.ensures rest in
+    let same = ap (λ (t : List ℕ). length (arrows_body t)) (kinds_joined (block k)) in record {
       kept = (
-        part_kept (block (goal.at.write-z-requires c).Start) c.requires.g_value.0,
-        rows_at 4 256 (block (goal.at.write-z-requires c).Start) (omega arith),
+        part_kept (block k) c.requires.g_value.0,
+        rows_at 4 256 (block k) (omega arith),
         c.requires.g_value.1
-            ∙ ap (turned_in (row (block (goal.at.write-z-requires c).Start) 0)) (kinds_joined (block (goal.at.write-z-requires c).Start)),
+            ∙ ap (turned_in (row (block k) 0)) (kinds_joined (block k)),
       );
-      table_in_bounds = omega (arith, room_first (arrows (goal.at.write-z-requires c).Start) (labels (goal.at.write-z-requires c).Start) _ _ left, same);
+      table_in_bounds = omega (arith, room_first (arrows k) (labels k) _ _ left, same);
     }
 
 pub write_rows-requires : goal.write_rows-requires
 write_rows-requires c =
-    let few = counted (goal.at.write_rows-requires c).Start in
-    let n = whole (goal.at.write_rows-requires c).After-w-1 in
-    let rows : length (table_at 340 64 (block (goal.at.write_rows-requires c).Start)) ≡ 64 = rows_at 340 64 (block (goal.at.write_rows-requires c).Start) (omega arith) in
-    let long : length (labels (goal.at.write_rows-requires c).Start) ≡ 1 * (graph (goal.at.write_rows-requires c).Start).steps = length_rows 1 (graph (goal.at.write_rows-requires c).Start).steps (graph (goal.at.write_rows-requires c).Start).labels in
-    let rest = room_then (allows (goal.at.write_rows-requires c).Start) (holds (goal.at.write_rows-requires c).Start ++ (arrows (goal.at.write_rows-requires c).Start ++ labels (goal.at.write_rows-requires c).Start)) _ _ _ _ c.write_rows-x.ensures
+    let k = (goal.at.write_rows-requires c).Start in
+    let few = counted k in
+    let n : length (block k) ≡ 404 = omega arith in
+    let rows : length (table_at 340 64 (block k)) ≡ 64 = rows_at 340 64 (block k) (omega arith) in
+    let long : length (labels k) ≡ 1 * (graph k).steps = length_rows 1 (graph k).steps (graph k).labels in
+    let rest = room_then (allows k) (holds k ++ (arrows k ++ labels k)) _ _ _ _ c.write_rows-x.ensures
     c.requires.g_in_bounds in
-    let left = room_then (holds (goal.at.write_rows-requires c).Start) (arrows (goal.at.write_rows-requires c).Start ++ labels (goal.at.write_rows-requires c).Start) _ _ _ _ c.write_rows-y.ensures rest in
-    omega (arith, room_then (arrows (goal.at.write_rows-requires c).Start) (labels (goal.at.write_rows-requires c).Start) _ _ _ _ (rw (sym (kinds_joined (block (goal.at.write_rows-requires c).Start))) at c.write-z.ensures) left)
+    let left = room_then (holds k) (arrows k ++ labels k) _ _ _ _ c.write_rows-y.ensures rest in
+    omega (arith, room_then (arrows k) (labels k) _ _ _ _ (rw (sym (kinds_joined (block k))) at c.write-z.ensures) left)
 
 pub returns : goal.returns
 returns c =
-    spliced_then (allows (goal.at.returns c).Start) (holds (goal.at.returns c).Start ++ (arrows (goal.at.returns c).Start ++ labels (goal.at.returns c).Start)) _ _ _ _ _ _ c.write_rows-x.ensures
-    (spliced_then (holds (goal.at.returns c).Start) (arrows (goal.at.returns c).Start ++ labels (goal.at.returns c).Start) _ _ _ _ _ _ c.write_rows-y.ensures
-    (spliced_then (arrows (goal.at.returns c).Start) (labels (goal.at.returns c).Start) _ _ _ _ _ _ (rw (sym (kinds_joined (block (goal.at.returns c).Start))) at c.write-z.ensures)
+    let k = (goal.at.returns c).Start in
+    spliced_then (allows k) (holds k ++ (arrows k ++ labels k)) _ _ _ _ _ _ c.write_rows-x.ensures
+    (spliced_then (holds k) (arrows k ++ labels k) _ _ _ _ _ _ c.write_rows-y.ensures
+    (spliced_then (arrows k) (labels k) _ _ _ _ _ _ (rw (sym (kinds_joined (block k))) at c.write-z.ensures)
     c.write_rows.ensures))

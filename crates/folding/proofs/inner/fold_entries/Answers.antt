@@ -16,7 +16,7 @@ use Rattle.folding.specs.Laws.{compound, compound_more, compose_clears, fold_bar
 use Rattle.folding.proofs.inner.fold_entries.Goals as goal
 
 pub loop-k-init : goal.loop-k-init
-loop-k-init c = (search rules, search rules, search rules, refl, refl)
+loop-k-init c = (search rules, search rules, refl, refl)
 
 pub entry_record-e-requires : goal.entry_record-e-requires
 entry_record-e-requires c = c.requires.0
@@ -32,7 +32,7 @@ returns-then-e c =
     let on : (entry_record g (entry_at j l.k)).never ≡ true =
     ap (λ (q : Record). q.never) (sym (c.entry_record-e.ensures ∙ ap (entry_record g) c.entry_at.ensures))
     ∙ c.if-e.true in
-    sym (fold_barred g j l.k l.r sound l.invariant.4 room on)
+    sym (fold_barred g j l.k l.r sound l.invariant.3 room on)
 
 pub cleared-r-requires : goal.cleared-r-requires
 cleared-r-requires c =
@@ -41,7 +41,7 @@ cleared-r-requires c =
     let l = c.loop-k in
     let next : c.composed.result ≡ compose l.r (entry_record g c.entry_at.result) = c.composed.ensures
     ∙ ap (compose l.r) c.entry_record-e.ensures in
-    ap (λ (q : Record). q.dueclear) next ∙ compose_clears g l.r c.entry_at.result l.invariant.3
+    ap (λ (q : Record). q.dueclear) next ∙ compose_clears g l.r c.entry_at.result l.invariant.2
     ∙ ap (λ (q : Record). q.done) (sym next)
 
 pub returns-then-r : goal.returns-then-r
@@ -58,7 +58,7 @@ returns-then-r c =
     ∙ ap (compose l.r)
     (c.entry_record-e.ensures
     ∙ ap (entry_record g) c.entry_at.ensures))) ∙ c.if-r.true in
-    sym (fold_stuck g j l.k l.r sound l.invariant.4 room on)
+    sym (fold_stuck g j l.k l.r sound l.invariant.3 room on)
 
 pub loop-k-preserved : goal.loop-k-preserved
 loop-k-preserved c =
@@ -74,12 +74,11 @@ loop-k-preserved c =
     (c.entry_record-e.ensures
     ∙ ap (entry_record g) c.entry_at.ensures) in
     let clears : c.cleared-r.result.dueclear ≡ c.cleared-r.result.done = ap (λ (q : Record). q.dueclear) next
-    ∙ compose_clears g l.r (entry_at j l.k) l.invariant.3 ∙ ap (λ (q : Record). q.done) (sym next) in (
-      search rules,
+    ∙ compose_clears g l.r (entry_at j l.k) l.invariant.2 ∙ ap (λ (q : Record). q.done) (sym next) in (
       search rules,
       search rules,
       clears,
-      l.invariant.4 ∙ compound_more g l.r j l.k room
+      l.invariant.3 ∙ compound_more g l.r j l.k room
           ∙ ap (λ (q : Record). compound g q (entries (drop (3 * (l.k + 1)) j))) (sym next),
     )
 
@@ -91,4 +90,4 @@ returns c =
     let j = a.j.now in
     let sound : Sound g = clear_sound g c.requires.0 in
     let past : length j ≤ 3 * l.k = omega arith in
-    c.tidied.ensures ∙ sym (fold_ended g j l.k l.r sound l.invariant.4 past)
+    c.tidied.ensures ∙ sym (fold_ended g j l.k l.r sound l.invariant.3 past)

@@ -1,4 +1,4 @@
-use Prim.Native.Nat.{◌*◌, ◌-◌, ◌^◌, ◌≤◌, ◌<◌}
+use Prim.Native.Nat.{◌*◌, ◌^◌, ◌<◌}
 use mathlib.Core.Path.{◌≡◌}
 use lib.ListN.{length, drop}
 use Rattle.rules.specs.Graph.{graph_of}
@@ -9,9 +9,6 @@ use Rattle.folding.proofs.inner.fold_entries.Given as goal
 
 abbrev pub invariant-loop-k : goal.invariant-loop-k
 invariant-loop-k l =
-    (l.count * 3 ≡ length l.j) × (length l.j < 2 ^ 64) × (l.k ≤ l.count) × (l.r.dueclear ≡ l.r.done)
+    (l.count * 3 ≡ length l.j) × (length l.j < 2 ^ 64) × (l.r.dueclear ≡ l.r.done)
     × (compound (graph_of l.g) identity (entries l.j)
     ≡ compound (graph_of l.g) l.r (entries (drop (3 * l.k) l.j)))
-
-abbrev pub decreases-loop-k : goal.decreases-loop-k
-decreases-loop-k l = l.count - l.k

@@ -21,7 +21,7 @@ use Rattle.journal.specs.Inner.{run_on}
 use Rattle.journal.specs.Allowed.{is_allowed, allowed_named, allowed_moved}
 use Rattle.journal.specs.Singles.{singles_all}
 use Rattle.journal.specs.Laws.{run_moved, run_ended}
-use Rattle.journal.proofs.Stopped.{run_stopped}
+use Rattle.journal.proofs.Stopping.{run_stopped}
 use Rattle.journal.proofs.quick.run_entries.Goals as goal
 use Rattle.journal.proofs.quick.run_entries.Goals.{After-allowed, At-loop-k}
 use Rattle.std.specs.Prelude.{Ok, Err}
@@ -42,7 +42,7 @@ room p =
 
 -- ---- the needs
 pub loop-k-init : goal.loop-k-init
-loop-k-init c = (search rules, search rules, search rules, refl)
+loop-k-init c = (search rules, search rules, refl)
 
 pub allowed-requires : goal.allowed-requires
 allowed-requires c = (c.requires.0, singles_all)
@@ -58,8 +58,8 @@ returns-then-not-allowed c =
     let e = c.entry_at-e.ensures in
     let out : is_allowed g l.at (entry_at j l.k) ≡ false =
     ap (is_allowed g l.at) (sym e) ∙ sym c.allowed.ensures ∙ c.if-not-allowed.true in
-    ap ((λ x. Err (stopped l.k l.at x))) (c.against.ensures ∙ ap (λ (x : Entry). refusal_in (entry_asked g l.at x)) e)
-    ∙ sym (l.invariant.3 ∙ run_stopped g l.at j l.k (room (goal.at.returns-then-not-allowed c).After-allowed) out)
+    ap Err (c.stopped.ensures ∙ ap (stopped l.k l.at) (c.against.ensures ∙ ap (λ (x : Entry). refusal_in (entry_asked g l.at x)) e))
+    ∙ sym (l.invariant.2 ∙ run_stopped g l.at j l.k (room (goal.at.returns-then-not-allowed c).After-allowed) out)
 
 pub taken-at-requires : goal.taken-at-requires
 taken-at-requires c =
@@ -79,8 +79,7 @@ loop-k-preserved c =
     ap (entry_move g l.at) (sym c.entry_at-e.ensures) ∙ allowed_moved g l.at _ ok in (
       search rules,
       search rules,
-      search rules,
-      l.invariant.3 ∙ run_moved g l.at _ j l.k (room (goal.at.loop-k-preserved c).After-allowed) told
+      l.invariant.2 ∙ run_moved g l.at _ j l.k (room (goal.at.loop-k-preserved c).After-allowed) told
           ∙ ap (λ (n : Marking). run_on g n (l.k + 1) (entries (drop (3 * (l.k + 1)) j))) (sym c.taken-at.ensures),
     )
 
@@ -90,4 +89,4 @@ returns c =
     let j : List ℕ = journal (goal.at.returns c).At-loop-k in
     let past : length j ≤ 3 * l.k = omega arith in
     let all : l.k ≡ length j / 3 = omega arith in
-    sym (l.invariant.3 ∙ run_ended (graph (goal.at.returns c).At-loop-k) l.at j l.k past ∙ ap ((λ x. Ok (ended l.at x))) all)
+    sym (l.invariant.2 ∙ run_ended (graph (goal.at.returns c).At-loop-k) l.at j l.k past ∙ ap ((λ (x : ℕ). Ok (ended l.at x))) all)

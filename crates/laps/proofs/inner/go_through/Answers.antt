@@ -17,7 +17,7 @@ use Rattle.rules.specs.Entries.{Named}
 use Rattle.journal.specs.Journal.{entry_at}
 use Rattle.journal.specs.Allowed.{is_allowed, allowed_named, allowed_moved}
 use Rattle.journal.specs.Singles.{singles_all}
-use Rattle.laps.specs.Decision.{Leg}
+use Rattle.laps.specs.Decision.{Went}
 use Rattle.laps.specs.Decision.{still}
 use Rattle.laps.specs.Ways.{leg_moved, leg_stopped, leg_ended}
 use Rattle.laps.proofs.inner.go_through.Goals as goal
@@ -25,7 +25,7 @@ use Rattle.std.specs.Prelude.{Ok, Err}
 use Rattle.laps.specs.Decision.{halt}
 
 pub loop-k-init : goal.loop-k-init
-loop-k-init c = (search rules, search rules, search rules, refl)
+loop-k-init c = (search rules, search rules, refl)
 
 pub allowed-requires : goal.allowed-requires
 allowed-requires c = (c.requires.0, singles_all)
@@ -44,9 +44,9 @@ returns-then-not-allowed c =
     let out : is_allowed g l.at (entry_at j l.k) ≡ false =
     ap (is_allowed g l.at) (sym c.entry_at-e.ensures) ∙ sym c.allowed.ensures
     ∙ c.if-not-allowed.true in
-    ap ((λ x. Err (halt l.k x))) (c.against.ensures
-    ∙ ap (λ (e : Entry). refusal_in (entry_asked g l.at e)) c.entry_at-e.ensures)
-    ∙ sym (l.invariant.3 ∙ leg_stopped g l.at l.left j l.k room out)
+    ap Err (c.halted.ensures ∙ ap (halt l.k) (c.against.ensures
+    ∙ ap (λ (e : Entry). refusal_in (entry_asked g l.at e)) c.entry_at-e.ensures))
+    ∙ sym (l.invariant.2 ∙ leg_stopped g l.at l.left j l.k room out)
 
 pub taken-next-requires : goal.taken-next-requires
 taken-next-requires c =
@@ -80,7 +80,7 @@ loop-k-preserved c =
     ∙ ap Ok (sym c.taken-next.ensures) in
     let kept : c.remain-left.result ≡ still l.left l.at (entry_at j l.k).step.0 = c.remain-left.ensures
     ∙ ap (λ (e : Entry). still l.left l.at e.step.0) c.entry_at-e.ensures in
-    (search rules, search rules, search rules, l.invariant.3 ∙ leg_moved g l.at l.left j l.k _ _ room told kept)
+    (search rules, search rules, l.invariant.2 ∙ leg_moved g l.at l.left j l.k _ _ room told kept)
 
 pub returns : goal.returns
 unfolding full
@@ -90,4 +90,4 @@ returns c =
     let g : Graph = graph_of a.g.now in
     let j = a.j.now in
     let past : length j ≤ 3 * l.k = omega arith in
-    sym (l.invariant.3 ∙ leg_ended g l.at l.left j l.k past)
+    sym (l.invariant.2 ∙ leg_ended g l.at l.left j l.k past)

@@ -7,21 +7,21 @@ use Rattle.laps.specs.Decision.{leg_of, judged, second_lap}
 use Rattle.laps.specs.Ways.{upon_ended, upon_stopped}
 use Rattle.laps.proofs.inner.second_lap.Goals as goal
 
-pub returns-in-Stopped : goal.returns-in-Stopped
+pub returns-in-Err : goal.returns-in-Err
 unfolding second_lap
-returns-in-Stopped c =
+returns-in-Err c =
     let a = c.args in
     let g : Graph = graph_of a.g.now in
     let j = entries a.lap.now in
     sym (upon_stopped (leg_of g a.m j) Pass.Second (λ end x. judged x) _ _
-    (sym c.go_through-leg.ensures ∙ c.in-Stopped.is))
+    (sym c.go_through.ensures ∙ c.in-Err.is))
 
-pub returns-in-Ended : goal.returns-in-Ended
+pub returns-in-Ok : goal.returns-in-Ok
 unfolding second_lap
-returns-in-Ended c =
+returns-in-Ok c =
     let a = c.args in
     let g : Graph = graph_of a.g.now in
     let j = entries a.lap.now in
     c.judge.ensures ∙ sym
     (upon_ended (leg_of g a.m j) Pass.Second (λ end x. judged x) _ _
-    (sym c.go_through-leg.ensures ∙ c.in-Ended.is))
+    (sym c.go_through.ensures ∙ c.in-Ok.is))
