@@ -2,7 +2,7 @@
 -- pass. That is so for four causes: an entry names what there is not, its person does not hold the role, its step does not have it, or an
 -- earlier entry shut its step out and none since has let it in. For at the marking with everything done and included nothing else can
 -- stand in the way. Assumes nothing.
-use Rattle.std.specs.Prelude.{ℕ, ◌<◌, ◌≡◌, ◌↔◌, List, [], ◌∷◌, not, ◌&&◌, ◌||◌}
+use Rattle.std.specs.Prelude.{ℕ, ◌<◌, ◌≡◌, ◌↔◌, List, [], ◌∷◌, not, ◌&&◌, ◌||◌, Ok}
 use Rattle.std.proofs.Math.Path.{refl, sym, ap}
 use Rattle.std.proofs.Common.{ap₂, ◌∙◌, true≢false, lt-ltb}
 use Rattle.std.proofs.Math.Bool.{Bool, true, false, cond}
@@ -13,7 +13,6 @@ use Rattle.sets.specs.Truth.{and_left, or_first}
 use Rattle.sets.specs.Laws.{has_union, has_meet, has_minus, has_full, has_zero, member_below, members_empty}
 use Rattle.moves.specs.declared.Marking.{Marking}
 use Rattle.moves.specs.declared.Entry.{Entry}
-use Rattle.moves.specs.First.{Verdict}
 use Rattle.moves.specs.Move.{marking_fits, after, is_included, waits_for, person_holds, step_has}
 use Rattle.moves.specs.Inside.{inside_fits}
 use Rattle.rules.specs.Graph.{Graph, graph_verdict, conditions_of, includes_of, excludes_of}
@@ -23,7 +22,6 @@ use Rattle.rules.specs.Sound.{Sound, clear_sound}
 use Rattle.journal.specs.Journal.{entries, length_fits}
 use Rattle.journal.specs.Run.{the_run}
 use Rattle.records.specs.declared.Record.{Record}
-use Rattle.records.specs.Answers.{Recorded}
 use Rattle.records.specs.Records.{acts, applies, gives, well_formed}
 use Rattle.records.specs.Laws.{applies_never}
 use Rattle.records.specs.WellFormed.{well_formed_lem}
@@ -34,7 +32,6 @@ use Rattle.folding.specs.Laws.{moved_if, acts_fold, fold_well_formed}
 use Rattle.folding.specs.Answers.{the_fold}
 use Rattle.folding.specs.Answered.{fold_clear}
 use Rattle.folded.specs.Theorems.{end_of, Folding, folding, fold_tells}
-use Rattle.std.specs.Prelude.{Ok}
 
 -- ---- the one record
 

@@ -1,6 +1,6 @@
 -- The theorems on folding journals: a fold tells what the run does, the fold of one journal after another is the join of their
 -- folds, and going on from a record is going on from the run. Assumes nothing.
-use Rattle.std.specs.Prelude.{ℕ, ◌+◌, ◌≡◌, refl, List, [], ◌∷◌, ◌++◌, Bool, true, false}
+use Rattle.std.specs.Prelude.{ℕ, ◌+◌, ◌≡◌, refl, List, [], ◌∷◌, ◌++◌, Bool, true, false, Ok, Err}
 use Rattle.std.proofs.Common.{sym, ap, ap₂, ◌∙◌, subst, arith, le-leb}
 use Rattle.std.proofs.Math.Option.{Option, none, some, bind}
 use Rattle.sets.specs.Truth.{and_intro}
@@ -10,21 +10,19 @@ use Rattle.moves.specs.declared.Entry.{Entry}
 use Rattle.moves.specs.declared.Refusal.{Refusal}
 use Rattle.moves.specs.declared.Refusal.TheVariants.{Length, Outside, NotApplied}
 use Rattle.moves.specs.First.{Verdict}
-use Rattle.moves.specs.Move.{Move}
-use Rattle.moves.specs.Move.{within1to, marking_fits, no_marking}
+use Rattle.moves.specs.Move.{Move, within1to, marking_fits, no_marking}
 use Rattle.rules.specs.Answers.{entry_move}
 use Rattle.tables.specs.Laws.{Counted}
 use Rattle.rules.specs.Laws.{clear_counts}
 use Rattle.moves.specs.Inside.{Inside, fits_inside, inside_fits}
 use Rattle.rules.specs.Sound.{clear_sound}
-use Rattle.journal.specs.Ran.{Ran}
+use Rattle.journal.specs.Ran.{Ran, ended, stopped}
 use Rattle.journal.specs.Journal.{entries, length_fits}
 use Rattle.journal.specs.Run.{go_on, the_run}
 use Rattle.journal.specs.Inner.{run_on}
 use Rattle.journal.specs.Laws.{fits_threes, entries_append, run_graph, run_length, run_inside}
 use Rattle.runs.specs.Runs.{and_then, further, Passes, passes_both, ended_passes, journals_append}
 use Rattle.records.specs.declared.Record.{Record}
-use Rattle.records.specs.Answers.{Recorded}
 use Rattle.records.specs.Records.{acts, well_formed, join, identity}
 use Rattle.records.specs.Laws.{acts_some, acts_none}
 use Rattle.records.specs.WellFormed.{WellFormed, well_formed_lem, of_well_formed}
@@ -35,9 +33,6 @@ use Rattle.folding.specs.Effect.{moved_to, end_of_all}
 use Rattle.folding.specs.Laws.{fold_well_formed, acts_fold, fold_append}
 use Rattle.folding.specs.Answers.{the_fold, the_restoring}
 use Rattle.folding.specs.Answered.{fold_graph, fold_length, fold_clear, restore_graph, restore_length, restore_outside, restore_on}
-use Rattle.std.specs.Prelude.{Ok, Err}
-use Rattle.journal.specs.Ran.{ended}
-use Rattle.journal.specs.Ran.{stopped}
 
 -- ---- a fold tells what the run does
 
@@ -149,11 +144,11 @@ pub restore_ended : (g : Graph) (a b : List ℕ) (p : Record) (m x : Marking) (n
     → the_run g m a ≡ Ok (ended x n)
     → the_restoring g p b m ≡ the_run g x b
 unfolding end_of
-restore_ended g a b p m x n ea ended =
+restore_ended g a b p m x n ea ends =
     let f : Folding g a p = folding g a p ea in
     let told = fold_tells g a p ea in
-    let within : marking_fits g.steps m ≡ true = (ended_passes g m x n a ended).0.within in
-    let does = acts_some p m x (told.1 m within ∙ ap end_of ended) in
+    let within : marking_fits g.steps m ≡ true = (ended_passes g m x n a ends).0.within in
+    let does = acts_some p m x (told.1 m within ∙ ap end_of ends) in
     restore_applied g p b m x
     (applied_of_lem g.steps p m x
     (record { counts = clear_steps g f.clear; fits = within; good = told.0; suits = does.0; given = does.1 }))
@@ -163,10 +158,10 @@ pub restore_stopped : (g : Graph) (a b : List ℕ) (p : Record) (m x : Marking) 
     → marking_fits g.steps m ≡ true → length_fits b ≡ true
     → the_run g m a ≡ Err (stopped k x q) → the_restoring g p b m ≡ Err (stopped 0 m NotApplied)
 unfolding end_of
-restore_stopped g a b p m x k q ea within long stopped =
+restore_stopped g a b p m x k q ea within long stops =
     let f : Folding g a p = folding g a p ea in
     let told = fold_tells g a p ea in
-    restore_on g p b m false f.clear long within told.0 (acts_none p m (told.1 m within ∙ ap end_of stopped))
+    restore_on g p b m false f.clear long within told.0 (acts_none p m (told.1 m within ∙ ap end_of stops))
 
 -- running one journal after another is running the first, and then what restoring from its record gives, counted on
 pub restore_appends : (g : Graph) (a b : List ℕ) (p : Record) (m : Marking) → the_fold g a ≡ Ok p → length_fits (a ++ b) ≡ true
@@ -174,7 +169,8 @@ pub restore_appends : (g : Graph) (a b : List ℕ) (p : Record) (m : Marking) �
 unfolding and_then
 restore_appends g a b p m ea long = journals_append g m a b (folding g a p ea).long long ∙ go (the_run g m a) refl
   where
-    go : (v : Ran) → the_run g m a ≡ v → and_then v (λ x n. further n (the_run g x b)) ≡ and_then v (λ x n. further n (the_restoring g p b m))
+    go : (v : Ran) → the_run g m a ≡ v
+        → and_then v (λ x n. further n (the_run g x b)) ≡ and_then v (λ x n. further n (the_restoring g p b m))
     go (Ok w) e = ap (further w.entries) (sym (restore_ended g a b p m w.marking w.entries ea e))
     go (Err d) e = refl
 
@@ -182,23 +178,24 @@ restore_appends g a b p m ea long = journals_append g m a b (folding g a p ea).l
 pub restore_passes : (g : Graph) (a b : List ℕ) (p : Record) (m x : Marking) (n : ℕ) → the_fold g a ≡ Ok p
     → the_restoring g p b m ≡ Ok (ended x n)
     → Passes g m (entries a ++ entries b) x
-restore_passes g a b p m x n ea ended = go (the_run g m a) refl
+restore_passes g a b p m x n ea ends = go (the_run g m a) refl
   where
     clear : graph_verdict g ≡ Ok tt
     clear = (folding g a p ea).clear
 
-    stopped : {A : Type 0} (k : ℕ) (y : Marking) (q : Refusal) → the_restoring g p b m ≡ Err (stopped k y q) → A
-    stopped k y q e =
-        absurd (let s : Err (stopped k y q) ≡ Ok (ended x n) = sym e ∙ ended in let z : ◌≡◌ {A = ℕ} 0 1 = cc in let w : ⊥ = omega arith in w)
+    stops : {A : Type 0} (k : ℕ) (y : Marking) (q : Refusal) → the_restoring g p b m ≡ Err (stopped k y q) → A
+    stops k y q e =
+        absurd (let s : Err (stopped k y q) ≡ Ok (ended x n) = sym e ∙ ends in
+        let z : ◌≡◌ {A = ℕ} 0 1 = cc in let w : ⊥ = omega arith in w)
 
     refused : {A : Type 0} (k : ℕ) (y : Marking) (q : Refusal) → the_run g m a ≡ Err (stopped k y q) → (l f : Bool) → length_fits b ≡ l
         → marking_fits g.steps m ≡ f → A
-    refused k y q e false f u v = stopped 0 no_marking Length (restore_length g p b m clear u)
-    refused k y q e true false u v = stopped 0 no_marking Outside (restore_outside g p b m clear u v)
-    refused k y q e true true u v = stopped 0 m NotApplied (restore_stopped g a b p m y k q ea v u e)
+    refused k y q e false f u v = stops 0 no_marking Length (restore_length g p b m clear u)
+    refused k y q e true false u v = stops 0 no_marking Outside (restore_outside g p b m clear u v)
+    refused k y q e true true u v = stops 0 m NotApplied (restore_stopped g a b p m y k q ea v u e)
 
     go : (v : Ran) → the_run g m a ≡ v → Passes g m (entries a ++ entries b) x
     go (Ok w) e =
         passes_both g m w.marking x (entries a) (entries b) (ended_passes g m w.marking w.entries a e).2
-        (ended_passes g w.marking x n b (sym (restore_ended g a b p m w.marking w.entries ea e) ∙ ended)).2
+        (ended_passes g w.marking x n b (sym (restore_ended g a b p m w.marking w.entries ea e) ∙ ends)).2
     go (Err d) e = refused d.index d.marking d.refusal e (length_fits b) (marking_fits g.steps m) refl refl

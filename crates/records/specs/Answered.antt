@@ -1,21 +1,18 @@
 -- The laws of the answers: what an answer that is no refusal says of what was handed in. Assumes nothing.
-use Rattle.std.specs.Prelude.{ℕ, ◌≤◌, ◌≡◌, refl, Bool, true, false, not, cond, leb}
+use Rattle.std.specs.Prelude.{ℕ, ◌≤◌, ◌≡◌, refl, Bool, true, false, not, cond, leb, Ok, Err}
 use Rattle.std.proofs.Common.{ap, arith, leb-true}
 use Rattle.sets.specs.Sets.{minus}
 use Rattle.sets.specs.Truth.{and_right}
 use Rattle.sets.specs.Laws.{union_lt, minus_lt}
 use Rattle.moves.specs.declared.Marking.{Marking}
 use Rattle.moves.specs.declared.Refusal.TheVariants.{Counts, Outside, IllFormed, NotApplied}
-use Rattle.moves.specs.First.{Verdict}
-use Rattle.moves.specs.First.{first, number_of_verdict, number_of}
-use Rattle.moves.specs.Move.{within1to, marking_fits}
+use Rattle.moves.specs.First.{Verdict, first, number_of_verdict, number_of}
+use Rattle.moves.specs.Move.{within1to, marking_fits, denied}
 use Rattle.moves.specs.Inside.{Inside}
 use Rattle.records.specs.declared.Record.{Record}
 use Rattle.records.specs.Records.{applies, gives, well_formed, join}
 use Rattle.records.specs.WellFormed.{Bounded}
 use Rattle.records.specs.Answers.{recorded_of, the_join, applied_of, applied_on, the_application, number_of_recorded, number_of_applied}
-use Rattle.std.specs.Prelude.{Ok, Err}
-use Rattle.moves.specs.Move.{denied}
 
 -- there are at most 64 steps
 pub counts_most : (n : ℕ) → within1to n 64 ≡ true → n ≤ 64

@@ -1,15 +1,12 @@
 -- A record's 65 bytes, and what the calls that read and write them answer.
-use Rattle.std.specs.Prelude.{ℕ, ◌≡◌, List, [], ◌∷◌, ◌++◌, Bool, not, ◌&&◌, cond, length, get_or, drop, eqb, ltb, leb}
+use Rattle.std.specs.Prelude.{ℕ, ◌≡◌, List, [], ◌∷◌, ◌++◌, Bool, not, ◌&&◌, cond, length, get_or, drop, eqb, ltb, leb, Ok, Err}
 use Rattle.moves.specs.declared.Refusal.TheVariants.{Counts, IllFormed, Room}
-use Rattle.moves.specs.First.{Verdict}
-use Rattle.moves.specs.First.{Line, first}
+use Rattle.moves.specs.First.{Verdict, Line, first}
 use Rattle.moves.specs.Move.{within1to}
 use Rattle.numbers.specs.Numbers.{number, bytes}
 use Rattle.records.specs.declared.Record.{Record}
-use Rattle.records.specs.Answers.{Recorded}
+use Rattle.records.specs.Answers.{Recorded, recorded_of}
 use Rattle.records.specs.Records.{sets_of, well_formed}
-use Rattle.records.specs.Answers.{recorded_of}
-use Rattle.std.specs.Prelude.{Ok, Err}
 
 -- the first byte is never, 0 or 1
 abbrev pub flag : Bool → ℕ

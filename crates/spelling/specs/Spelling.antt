@@ -1,10 +1,11 @@
 -- The laws of a record's bytes: reading undoes writing and writing undoes reading, and equal records have equal bytes. Assumes nothing.
-use Rattle.std.specs.Prelude.{ℕ, zero, suc, ◌+◌, ◌-◌, ◌*◌, ◌%◌, ◌^◌, ◌≤◌, ◌<◌, ◌≡◌, refl, List, [], ◌∷◌, ◌++◌, Bool, true, false, ◌&&◌, cond, length, get_or, take, drop, eqb, leb}
-use Rattle.std.proofs.Common.{sym, ap, ap₂, ◌∙◌, subst, append_assoc, arith, lt_of_lt_of_le, length-drop, take-append-drop, take-suc, add-one, length-append, length-take-le, drop-drop, pow_mono, eq-eqb, le-leb, eqb-true, leb-true}
+use Rattle.std.specs.Prelude.{ℕ, zero, suc, ◌+◌, ◌-◌, ◌*◌, ◌%◌, ◌^◌, ◌≤◌, ◌<◌, ◌≡◌, refl, List, [], ◌∷◌, ◌++◌, Bool, true, false, ◌&&◌}
+use Rattle.std.specs.Prelude.{cond, length, get_or, take, drop, eqb, leb}
+use Rattle.std.proofs.Common.{sym, ap, ap₂, ◌∙◌, subst, append_assoc, arith, lt_of_lt_of_le, length-drop, take-append-drop, take-suc}
+use Rattle.std.proofs.Common.{add-one, length-append, length-take-le, drop-drop, pow_mono, eq-eqb, le-leb, eqb-true, leb-true}
 use Rattle.std.proofs.lemmas.List.Edits.{sets-eq}
 use Rattle.sets.specs.Truth.{and_left, and_right}
-use Rattle.moves.specs.First.{Verdict}
-use Rattle.moves.specs.First.{first}
+use Rattle.moves.specs.First.{Verdict, first}
 use Rattle.moves.specs.Move.{within1to}
 use Rattle.numbers.specs.Numbers.{number, bytes, Bytes, Spliced}
 use Rattle.numbers.specs.Laws.{drop_bytes, length_bytes, number_bytes, bytes_number, spliced_then, spliced_length}
@@ -47,7 +48,8 @@ pub length_spelt : (xs : List ℕ) → length (sets_spelt xs) ≡ 8 * length xs
 unfolding sets_spelt
 length_spelt [] = refl
 length_spelt (x ∷ xs) =
-    let both : length (bytes 8 x ++ sets_spelt xs) ≡ length (bytes 8 x) + length (sets_spelt xs) = length-append (bytes 8 x) (sets_spelt xs) in
+    let both : length (bytes 8 x ++ sets_spelt xs) ≡ length (bytes 8 x) + length (sets_spelt xs) =
+    length-append (bytes 8 x) (sets_spelt xs) in
     let one : length (bytes 8 x) ≡ 8 = length_bytes 8 x in
     let rest : length (sets_spelt xs) ≡ 8 * length xs = length_spelt xs in
     omega arith
