@@ -1,7 +1,7 @@
 -- What the dead-end report says, in the words of the request: each answer exactly when, over journals as they are lent and run. No code rests
 -- on these. A marking that is finished is found at a place; the first such place has the fewest entries. Assumes nothing.
 use Prim.Native.Nat.{ℕ, zero, suc, ◌+◌, ◌*◌, ◌%◌, ◌≤◌, ◌<◌, zero-le}
-use Rattle.std.specs.Prelude.{◌≡◌, ◌↔◌, List, [], ◌∷◌, ◌++◌, Bool, true, false, not, cond, get_or, ltb, leb}
+use Rattle.std.specs.Prelude.{◌≡◌, ◌↔◌, List, [], ◌∷◌, ◌++◌, Bool, true, false, not, cond, get_or, ltb, leb, Result, Ok}
 use Rattle.std.proofs.Math.Path.{refl, ap, subst}
 use Rattle.std.proofs.Common.{sym, ◌∙◌, true≢false, ltb-true, ltb-false, leb-true, leb-false, eq-eqb, le-leb}
 use native.Mathlib.Omega.{arith}
@@ -12,9 +12,8 @@ use Rattle.sets.specs.Truth.{and_intro}
 use Rattle.numbers.specs.Numbers.{Bytes}
 use Rattle.moves.specs.declared.Marking.{Marking}
 use Rattle.moves.specs.declared.Entry.{Entry}
-use Rattle.moves.specs.Move.{Move}
+use Rattle.moves.specs.declared.Refusal.{Refusal}
 use Rattle.moves.specs.declared.Refusal.TheVariants.{Store}
-use Rattle.moves.specs.First.{Verdict}
 use Rattle.moves.specs.First.{first}
 use Rattle.moves.specs.Move.{is_finished, no_marking, marking_fits}
 use Rattle.moves.specs.Given.{clear_head, clear_tail, clear_front, clear_back}
@@ -24,7 +23,6 @@ use Rattle.rules.specs.Answers.{marking_lines, the_move}
 use Rattle.rules.specs.Asking.{asked_taken, allowed_known}
 use Rattle.rules.specs.Entries.{Named, known_named}
 use Rattle.rules.specs.Laws.{clear_counts}
-use Rattle.journal.specs.Ran.{Ran}
 use Rattle.journal.specs.Journal.{entries, length_fits}
 use Rattle.journal.specs.Run.{run_from}
 use Rattle.journal.specs.Laws.{run_clear}
@@ -37,9 +35,7 @@ use Rattle.deadend.specs.Order.{Level, found_length, place_kept, stuck, alive, n
 use Rattle.deadend.specs.Answers.{Roomy, fits_roomy, ends_search}
 use Rattle.endings.specs.Reached.{Within, sound, complete}
 use Rattle.endings.specs.Words.{JournalEnds, FewestEntries, Unfinished, Overflows}
-use Rattle.std.specs.Prelude.{Ok, Result}
 use Rattle.journal.specs.Ran.{ended}
-use Rattle.moves.specs.declared.Refusal.{Refusal}
 
 -- an answer is no other answer
 differ : {A : Type 0} → ◌≡◌ {A = ℕ} 0 1 → A
@@ -229,11 +225,18 @@ module _ (g : Graph) (m : Marking) (store : List ℕ) (answered : first (ends_li
   abbrev c : ℕ
   c = room store
 
-  same : the_ends g m store ≡ search c g m
+  same : the_ends g m store ≡ Ok (search c g m)
   same = ends_search g m store clear within (not-false (store_fits store) (clear_head _ _ (clear_tail _ _ behind_graph)))
 
-  comes : Outcome g m c (the_ends g m store)
-  comes = subst (Outcome g m c) (sym same) (outcome g m c roomy.some)
+  comes : Outcome g m c (search c g m)
+  comes = outcome g m c roomy.some
+
+  -- what is answered is what the search comes to
+  searched : (a : Ends) → the_ends g m store ≡ Ok a → search c g m ≡ a
+  searched a e = let p : ◌≡◌ {A = Result Ends Refusal} (Ok (search c g m)) (Ok a) = sym same ∙ e in cc
+
+  answers : (a : Ends) → search c g m ≡ a → the_ends g m store ≡ Ok a
+  answers a e = same ∙ ap Ok e
 
   -- journals and entries: what is reached within the store is short enough to be lent
   to_entries : (n : ℕ) → JournalEnds g m n → CanEnd g m n
@@ -302,48 +305,48 @@ module _ (g : Graph) (m : Marking) (store : List ℕ) (answered : first (ends_li
 
   -- undecided: exactly if the store runs over before a finished marking has its turn
   pub undecided_exactly : ((k : ℕ) × (the_ends g m store ≡ Ok (Ends.Undecided k))) ↔ Overflows (room store) g m
-  undecided_exactly = (λ w. there w.0 w.1 comes, λ o. back o comes)
+  undecided_exactly = (λ w. there w.0 (searched _ w.1) comes, λ o. back o comes)
     where
-      there : (k : ℕ) → the_ends g m store ≡ Ok (Ends.Undecided k) → Outcome g m c (the_ends g m store) → Overflows c g m
+      there : (k : ℕ) → search c g m ≡ Ends.Undecided k → Outcome g m c (search c g m) → Overflows c g m
       there k e (never n p q r s) = differ (cc)
       there k e (reach n p q r s t) = differ (cc)
       there k e (full n p q r s t) = record { turn = n; there = q; unended = s; over = t }
 
-      back : Overflows c g m → Outcome g m c (the_ends g m store) → (k : ℕ) × (the_ends g m store ≡ Ok (Ends.Undecided k))
+      back : Overflows c g m → Outcome g m c (search c g m) → (k : ℕ) × (the_ends g m store ≡ Ok (Ends.Undecided k))
       back o (never n p q r s) = absurd (never_fits n q r o)
       back o (reach n p q r s t) = absurd (reach_fits n q r s t o)
-      back o (full n p q r s t) = (n + 1, p)
+      back o (full n p q r s t) = (n + 1, answers _ p)
 
   -- where it does not run over, none: exactly if no journal that runs through ends the job
   pub none_exactly : (Overflows (room store) g m → ⊥)
       → ((k : ℕ) × (the_ends g m store ≡ Ok (Ends.None k))) ↔ ((n : ℕ) → JournalEnds g m n → ⊥)
-  none_exactly fits = (λ w. there w.0 w.1 comes, λ out. back out comes)
+  none_exactly fits = (λ w. there w.0 (searched _ w.1) comes, λ out. back out comes)
     where
-      there : (k : ℕ) → the_ends g m store ≡ Ok (Ends.None k) → Outcome g m c (the_ends g m store) → (n : ℕ) → JournalEnds g m n → ⊥
+      there : (k : ℕ) → search c g m ≡ Ends.None k → Outcome g m c (search c g m) → (n : ℕ) → JournalEnds g m n → ⊥
       there k e (never i p q r s) n j = never_none g m i n q s (to_entries n j)
       there k e (reach i p q r s t) n j = differ (cc)
       there k e (full i p q r s t) n j = differ (cc)
 
-      back : ((n : ℕ) → JournalEnds g m n → ⊥) → Outcome g m c (the_ends g m store) → (k : ℕ) × (the_ends g m store ≡ Ok (Ends.None k))
-      back out (never n p q r s) = (n, p)
+      back : ((n : ℕ) → JournalEnds g m n → ⊥) → Outcome g m c (search c g m) → (k : ℕ) × (the_ends g m store ≡ Ok (Ends.None k))
+      back out (never n p q r s) = (n, answers _ p)
       back out (reach n p q r s t) = absurd (out (depth g m n) (reach_fewest n q r s t).can)
       back out (full n p q r s t) = absurd (fits (record { turn = n; there = q; unended = s; over = t }))
 
   -- and reachable with n: exactly if a journal of n entries ends it, and none of fewer
   pub reachable_exactly : (Overflows (room store) g m → ⊥) → (n : ℕ)
       → ((k : ℕ) × (the_ends g m store ≡ Ok (Ends.Reachable n k))) ↔ FewestEntries g m n
-  reachable_exactly fits n = (λ w. there w.0 w.1 comes, λ f. back f comes)
+  reachable_exactly fits n = (λ w. there w.0 (searched _ w.1) comes, λ f. back f comes)
     where
-      there : (k : ℕ) → the_ends g m store ≡ Ok (Ends.Reachable n k) → Outcome g m c (the_ends g m store) → FewestEntries g m n
+      there : (k : ℕ) → search c g m ≡ Ends.Reachable n k → Outcome g m c (search c g m) → FewestEntries g m n
       there k e (never i p q r s) = differ (cc)
       there k e (reach i p q r s t) = let d : depth g m i ≡ n = cc in subst (FewestEntries g m) d (reach_fewest i q r s t)
       there k e (full i p q r s t) = differ (cc)
 
-      back : FewestEntries g m n → Outcome g m c (the_ends g m store) → (k : ℕ) × (the_ends g m store ≡ Ok (Ends.Reachable n k))
+      back : FewestEntries g m n → Outcome g m c (search c g m) → (k : ℕ) × (the_ends g m store ≡ Ok (Ends.Reachable n k))
       back f (never i p q r s) = absurd (never_none g m i n q s (to_entries n f.can))
       back f (reach i p q r s t) =
           let d : depth g m i ≡ n = fewest_unique (depth g m i) n (reach_fewest i q r s t) f in
-          (i + 1, p ∙ ap (λ (x : ℕ). Ok (Ends.Reachable x (i + 1))) d)
+          (i + 1, answers _ (p ∙ ap (λ (x : ℕ). Ends.Reachable x (i + 1)) d))
       back f (full i p q r s t) = absurd (fits (record { turn = i; there = q; unended = s; over = t }))
 
   -- what is said holds whatever the room: a job that can end is never said not to, nor the other way round

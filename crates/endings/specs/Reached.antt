@@ -9,7 +9,6 @@ use Rattle.std.proofs.Math.Decide.{dec_lt}
 use Rattle.std.proofs.Math.ListN.{length}
 use Rattle.moves.specs.declared.Marking.{Marking}
 use Rattle.moves.specs.declared.Entry.{Entry}
-use Rattle.moves.specs.Move.{Move}
 use Rattle.moves.specs.Move.{no_marking}
 use Rattle.rules.specs.Graph.{Graph}
 use Rattle.rules.specs.Answers.{the_move}

@@ -4,7 +4,6 @@ use Rattle.numbers.specs.Numbers.{Bytes}
 use Rattle.moves.specs.declared.Marking.{Marking}
 use Rattle.moves.specs.Move.{is_finished}
 use Rattle.rules.specs.Graph.{Graph}
-use Rattle.journal.specs.Ran.{Ran}
 use Rattle.journal.specs.Run.{the_run}
 use Rattle.deadend.specs.DeadEnd.{found, at}
 use Rattle.std.specs.Prelude.{Ok}

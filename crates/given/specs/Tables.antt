@@ -109,28 +109,15 @@ module _ (g : Graph) where
   step_given t e = exactly (step_lines g t e) (number_of_tracked (the_step g t e)) refl (step_number g t e)
 
 -- can the job still end: 2, 4, 6, 8, 22; a search that is begun is answered
-number_cond : (b : Bool) (x y : Result Ends Refusal) → number_of_ends (cond b x y) ≡ cond b (number_of_ends x) (number_of_ends y)
-number_cond true x y = refl
-number_cond false x y = refl
-
-cond_same : (b : Bool) (n : ℕ) → cond b n n ≡ n
-cond_same true n = refl
-cond_same false n = refl
-
-search_answered : (k c : ℕ) (g : Graph) (m : Marking) (i : ℕ) → number_of_ends (search_from k c g m i) ≡ 0
-unfolding search_from number_of_ends
-search_answered zero c g m i = refl
-search_answered (suc k) c g m i = simp (number_cond, search_answered k c g m (suc i), cond_same)
-
-ends_number : (v : Verdict) (o : Result Ends Refusal) → number_of_ends o ≡ 0 → number_of_ends (ends_of v o) ≡ number_of_verdict v
+ends_number : (v : Verdict) (a : Ends) → number_of_ends (ends_of v a) ≡ number_of_verdict v
 unfolding ends_of number_of_ends number_of_verdict
-ends_number (Ok _) o e = e
-ends_number (Err r) o e = refl
+ends_number (Ok _) a = refl
+ends_number (Err r) a = refl
 
 pub ends_given : (g : Graph) (m : Marking) (s : List ℕ) → Exactly (number_of_ends (the_ends g m s)) (ends_lines g m s)
-unfolding ascends number_of the_ends search
+unfolding ascends number_of the_ends
 ends_given g m s = exactly (ends_lines g m s) (number_of_ends (the_ends g m s)) refl
-    (ends_number (first (ends_lines g m s)) _ (search_answered _ _ g m 0))
+    (ends_number (first (ends_lines g m s)) _)
 
 -- a walk: 7
 walked_number : (k : ℕ) (v : Verdict) (s : Stride) → number_of_walked s.said ≡ 0

@@ -67,6 +67,7 @@ fn layout_fits(s: &[u8]) -> bool
     (layout::size(s, 0) == f.counts) & (layout::size(s, 1) == 24) & (layout::size(s, 4) % 3 == 0)
 }
 
+#[tactic(auto, using(crate::specs::Laws::placed_long))]
 fn counts(s: &[u8]) -> Counts
     requires { Placed s.now }
     ensures { result ≡ counts_of s.now }

@@ -17,6 +17,7 @@ pub struct Sheet<'a> {
 
 impl<'a> Sheet<'a> {
     // Is there a body 6, which says the actions of the steps?
+    #[tactic(auto, using(crate::specs::Laws::placed_long))]
     fn has_labels(&self) -> bool
         ensures { result ≡ is_six self.now.bytes.now }
     {
@@ -34,6 +35,7 @@ impl<'a> Sheet<'a> {
         }
     }
 
+    #[tactic(auto, using(crate::specs::Laws::placed_long))]
     pub fn bodies_match(&self) -> bool
         ensures { result ≡ bodies_match self.now.bytes.now }
     {

@@ -65,7 +65,7 @@ pub record Waited (g : Graph) (m : Marking) (e : Entry) (r : Refusal) : Type 0 w
   pub some : empty (waits_for (conditions_of g e.step.0) m) ≡ false
   pub refusal : r ≡ Waits (waits_for (conditions_of g e.step.0) m)
 
-not_fifteen : {A : Type 0} (q r : Refusal) → Err q ≡ Err r → number_of q < 15 → number_of r ≡ 15 → A
+not_fifteen : {A : Type 0} (q r : Refusal) → ◌≡◌ {A = Verdict} (Err q) (Err r) → number_of q < 15 → number_of r ≡ 15 → A
 not_fifteen q r e low is =
     let same : q ≡ r = cc in
     let other : number_of q ≡ number_of r = ap number_of same in
@@ -83,12 +83,12 @@ waited g m e r q is =
         → has (roles_of g e.step.0) e.role ≡ o
         → (i : Bool) → has m.included e.step.0 ≡ i
         → (n : Bool) → empty (waits_for (conditions_of g e.step.0) m) ≡ n
-        → cond (not k) (Err Unknown)
+        → ◌≡◌ {A = Verdict} (cond (not k) (Err Unknown)
         (cond (not h) (Err NotHeld)
         (cond (not o) (Err NotOnStep)
         (cond (not i) (Err Excluded)
-        (cond (not n) (Err (Waits (waits_for (conditions_of g e.step.0) m))) (Ok tt)))))
-        ≡ Err r
+        (cond (not n) (Err (Waits (waits_for (conditions_of g e.step.0) m))) (Ok tt))))))
+        (Err r)
         → Waited g m e r
     go false a h b o c i d n f t = not_fifteen Unknown r t (let z : 11 < 15 = omega arith in z) is
     go true a false b o c i d n f t = not_fifteen NotHeld r t (let z : 12 < 15 = omega arith in z) is

@@ -27,6 +27,7 @@ pub fn content(g: &Job, m: Marking) -> Result<(), Refusal>
 }
 
 // The conditions by the step that is waited for, as they are written.
+#[tactic(auto, using(crate::proofs::Few::few))]
 pub fn turned(g: &Job) -> [u64; 64]
     requires { graph_verdict (graph_of g.now) ≡ Ok tt }
     ensures { result ≡ turned_of (graph_of g.now) }
@@ -36,7 +37,8 @@ pub fn turned(g: &Job) -> [u64; 64]
     arrows::turned(n, &w[CONDITIONS..RESPONSES])
 }
 
-// How long the sheet is.
+// How long the sheet is. A graph and its turned conditions stay two parameters, here and in `fill`: docs/PROMISES.md names this floor.
+#[tactic(auto, using(crate::proofs::Few::few))]
 pub fn size<'a>(g: &'a Job, turned: &'a [u64; 64]) -> usize
     requires { (graph_verdict (graph_of g.now) ≡ Ok tt) × (turned.now ≡ turned_of (graph_of g.now)) }
     ensures { result ≡ length_out (graph_of g.now) }
@@ -59,6 +61,7 @@ fn write_front(n: usize, p: usize, a: usize, arrows: usize, room: &mut [u8]) -> 
 }
 
 // Bodies 3 to 6.
+#[tactic(auto, using(crate::proofs::Few::few))]
 fn write_tables<'a>(g: &'a Job, turned: &'a [u64; 64], room: &mut [u8], at: usize) -> usize
     requires g_value { (graph_verdict (graph_of g.now) ≡ Ok tt) × (turned.now ≡ turned_of (graph_of g.now)) }
     requires g_in_bounds { at + length (tables_out (graph_of g.now)) ≤ length room.old }
@@ -91,6 +94,7 @@ fn write_bodies<'a>(
 }
 
 // Writes the whole sheet, of the size that is given, from the start of the room, and gives its length.
+#[tactic(auto, using(crate::proofs::Few::few))]
 pub fn fill<'a>(
     g: &'a Job,
     turned: &'a [u64; 64],

@@ -8,14 +8,9 @@ use Rattle.layout.specs.Layout.{body_at}
 use Rattle.bodies.specs.Bodies.{counts_in}
 use Rattle.reading.specs.declared.Form.{Form}
 use Rattle.reading.specs.Reading.{form_of}
-use Rattle.reading.specs.Laws.{Formed, form_formed, placed_long, body_there, body_length}
+use Rattle.reading.specs.Laws.{Formed, form_formed, body_there, body_length}
 use Rattle.reading.proofs.counts.Goals as goal
 use Rattle.reading.proofs.counts.Goals.{After-form_of-f}
-
-pub form_of-f-requires : goal.form_of-f-requires
-form_of-f-requires c =
-    let long : 29 ≤ length c.args.s.now = placed_long c.args.s.now c.requires in
-    omega arith
 
 -- the byte that counts the actions
 counting : (c : After-form_of-f) → c.form_of-f.result.actions ≡ (form_of c.args.s.now).actions

@@ -29,24 +29,6 @@ arrows-left c =
     let e : c.args.size ≡ length_out (graph c) = c.requires.size_value.0 in
     omega arith
 
-pub overflow_mul-a : goal.overflow_mul-a
-overflow_mul-a c = omega (arith, counted (goal.at.overflow_mul-a c).Start)
-
-pub overflow_add-a : goal.overflow_add-a
-overflow_add-a c = omega (arith, counted (goal.at.overflow_add-a c).Start)
-
-pub overflow_mul-p : goal.overflow_mul-p
-overflow_mul-p c = omega (arith, counted (goal.at.overflow_mul-p c).Start)
-
-pub overflow_add-a-2 : goal.overflow_add-a-2
-overflow_add-a-2 c = omega (arith, counted (goal.at.overflow_add-a-2 c).Start)
-
-pub overflow_add-a-3 : goal.overflow_add-a-3
-overflow_add-a-3 c = omega (arith, counted (goal.at.overflow_add-a-3 c).Start)
-
-pub overflow_sub-size : goal.overflow_sub-size
-overflow_sub-size c = omega (arith, c.requires.size_value.0)
-
 pub write_front-at-requires : goal.write_front-at-requires
 write_front-at-requires c =
     let k = (goal.at.write_front-at-requires c).Start in

@@ -16,9 +16,6 @@ use Rattle.writing.proofs.turned.Goals.{Start}
 few : (c : Start) → row c.args.g.now 0 ≤ 64
 few c = (clear_counts (graph_of c.args.g.now) c.requires).steps_most
 
-pub overflow_cast-n : goal.overflow_cast-n
-overflow_cast-n c = omega (arith, few (goal.at.overflow_cast-n c).Start)
-
 pub turned-requires : goal.turned-requires
 turned-requires c =
     let whole : length c.args.g.now ≡ 404 = omega arith in

@@ -61,9 +61,6 @@ write_rows-y-requires c =
     omega (arith, room_first (holds k) (arrows k ++ labels k) _ _ rest)
 
 -- ---- the arrows
-pub overflow_cast-steps : goal.overflow_cast-steps
-overflow_cast-steps c = omega (arith, counted (goal.at.overflow_cast-steps c).Start)
-
 pub write-z-requires : goal.write-z-requires
 write-z-requires c =
     let k = (goal.at.write-z-requires c).Start in

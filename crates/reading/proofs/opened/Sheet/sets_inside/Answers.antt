@@ -13,9 +13,6 @@ use Rattle.reading.specs.Reading.{counts_of, first_of, labels_part}
 use Rattle.reading.specs.Laws.{CountedOf, body_there, body_length, opened_counted}
 use Rattle.reading.proofs.opened.Sheet.sets_inside.Goals as goal
 
-pub first_marking-requires : goal.first_marking-requires
-first_marking-requires c = c.args.self.now.opened.placed
-
 pub body-requires : goal.body-requires
 body-requires c = body_there _ c.args.self.now.opened.placed 2 (lit< tt)
 
