@@ -1,6 +1,8 @@
 -- The arrows of a sheet: three bytes each, kind, from, to, strictly ascending as triples; and the table that they fill.
-use Rattle.std.specs.Prelude.{ℕ, zero, suc, ◌+◌, ◌*◌, ◌/◌, ◌%◌, List, [], ◌∷◌, map, Bool, true, false, ◌&&◌, ◌||◌, cond, set, replicate, eqb, ltb, leb}
+use Rattle.std.specs.Prelude.{ℕ, ◌+◌, ◌*◌, ◌/◌, ◌%◌, List, [], ◌∷◌, map, Bool, true, ◌&&◌, ◌||◌, cond, set, replicate, eqb, ltb, leb}
 use Rattle.sets.specs.Sets.{has, single, union}
+pub use Rattle.sets.specs.Sets.{kept_if}
+unfoldable pub use Rattle.sets.specs.Sets.{listed}
 use Rattle.tables.specs.Tables.{row}
 
 pub record Arrow : Type 0 where
@@ -78,15 +80,6 @@ place x = x.kind * 4096 + x.from * 64 + x.to
 
 abbrev pub arrow_at : ℕ → Arrow
 arrow_at p = record { kind = p / 4096; from = p / 64 % 64; to = p % 64 }
-
-abbrev pub kept_if : Bool → ℕ → List ℕ → List ℕ
-kept_if true p rest = p ∷ rest
-kept_if false p rest = rest
-
--- those of the k numbers from s on for which f holds, in order
-unfoldable pub listed : ℕ → ℕ → (ℕ → Bool) → List ℕ
-listed zero s f = []
-listed (suc k) s f = kept_if (f s) s (listed k (suc s) f)
 
 -- all arrows of the table, ascending
 unfoldable pub arrows_of : (ℕ → ℕ) → List Arrow

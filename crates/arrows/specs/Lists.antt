@@ -1,11 +1,12 @@
 -- Numbers listed in order. One law ties the two ways to give such a list: a strictly ascending list is what `listed` gives of its members.
 -- Assumes nothing.
-use Rattle.std.specs.Prelude.{ℕ, zero, suc, ◌+◌, ◌≤◌, ◌<◌, ◌≡◌, refl, List, [], ◌∷◌, ◌++◌, Bool, true, false, ◌&&◌, ◌||◌, length, eqb, ltb, leb}
-use Rattle.std.proofs.Common.{sym, ap, ap₂, ◌∙◌, subst, true≢false, suc-add, arith, le-ltb, le-leb, leb-true, eq-eqb, ne_eqb}
+use Rattle.std.specs.Prelude.{ℕ, zero, suc, ◌+◌, ◌≤◌, ◌<◌, ◌≡◌, refl, List, [], ◌∷◌, Bool, true, false, ◌&&◌, ◌||◌, length, eqb, ltb, leb}
+use Rattle.std.proofs.Common.{sym, ap, ap₂, ◌∙◌, subst, true≢false, arith, le-ltb, le-leb, leb-true, eq-eqb, ne_eqb}
 use Rattle.std.proofs.lemmas.Bool.{false≢true}
 use Rattle.std.proofs.Math.Decide.{dec_lt}
 use Rattle.sets.specs.Truth.{and_left, and_right, and_intro}
 use Rattle.arrows.specs.Arrows.{listed, kept_if}
+pub use Rattle.sets.specs.Members.{listed_same, listed_add, listed_none, listed_first}
 
 -- the numbers go up, from s on
 unfoldable pub up_from : ℕ → List ℕ → Bool
@@ -20,48 +21,6 @@ all_below m (p ∷ rest) = ltb p m && all_below m rest
 unfoldable pub member : List ℕ → ℕ → Bool
 member [] x = false
 member (p ∷ rest) x = eqb p x || member rest x
-
--- ---- what is listed depends on the numbers looked at alone
-
-pub listed_same : (k s : ℕ) (f g : ℕ → Bool) → ((p : ℕ) → s ≤ p → p < s + k → f p ≡ g p) → listed k s f ≡ listed k s g
-unfolding listed
-listed_same zero s f g e = refl
-listed_same (suc k) s f g e =
-    let here : f s ≡ g s = e s (omega arith) (omega arith) in
-    let rest : listed k (suc s) f ≡ listed k (suc s) g = listed_same k (suc s) f g (λ p h l. e p (omega arith) (omega arith)) in
-    ap₂ (λ (b : Bool) (l : List ℕ). kept_if b s l) here rest
-
--- two runs of numbers, one after the other
-pub listed_add : (a b s : ℕ) (f : ℕ → Bool) → listed (a + b) s f ≡ listed a s f ++ listed b (s + a) f
-unfolding listed
-listed_add zero b s f = ap₂ (λ (k t : ℕ). listed k t f) (let z : 0 + b ≡ b = omega arith in z) (let z : s ≡ s + 0 = omega arith in z)
-listed_add (suc a) b s f =
-    ap (λ (k : ℕ). listed k s f) (suc-add a b)
-    ∙ ap (λ (l : List ℕ). kept_if (f s) s l)
-    (listed_add a b (suc s) f ∙ ap (λ (t : ℕ). listed a (suc s) f ++ listed b t f) (let z : suc s + a ≡ s + suc a = omega arith in z))
-    ∙ split (f s)
-  where
-    split : (c : Bool) → kept_if c s (listed a (suc s) f ++ listed b (s + suc a) f) ≡ kept_if c s (listed a (suc s) f)
-        ++ listed b (s + suc a) f
-    split true = refl
-    split false = refl
-
--- nothing is listed where nothing holds
-pub listed_none : (k s : ℕ) (f : ℕ → Bool) → ((p : ℕ) → s ≤ p → p < s + k → f p ≡ false) → listed k s f ≡ []
-unfolding listed
-listed_none zero s f e = refl
-listed_none (suc k) s f e =
-    ap₂ (λ (b : Bool) (l : List ℕ). kept_if b s l) (e s (omega arith) (omega arith))
-    (listed_none k (suc s) f (λ p h l. e p (omega arith) (omega arith)))
-
--- the first that holds comes first
-pub listed_first : (r d : ℕ) (f : ℕ → Bool) → ((p : ℕ) → p < r → f p ≡ false) → f r ≡ true → listed (r + suc d) 0 f ≡ r ∷ listed d (suc r) f
-unfolding listed
-listed_first r d f none here =
-    listed_add r (suc d) 0 f
-    ∙ ap₂ (λ (l : List ℕ) (t : ℕ). l ++ listed (suc d) t f) (listed_none r 0 f (λ p h l. none p (omega arith)))
-    (let z : 0 + r ≡ r = omega arith in z)
-    ∙ ap (λ (b : Bool). kept_if b r (listed d (suc r) f)) here
 
 -- ---- a list and its members
 

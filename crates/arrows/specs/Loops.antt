@@ -1,5 +1,5 @@
 -- What the loops over arrows carry: for each, what is left to do and the law for one turn more. Assumes nothing.
-use Prim.Native.Nat.{ℕ, zero, suc, ◌+◌, ◌-◌, ◌*◌, ◌^◌, ◌≤◌, ◌<◌}
+use Prim.Native.Nat.{ℕ, zero, suc, ◌+◌, ◌*◌, ◌≤◌, ◌<◌}
 use Rattle.std.specs.Prelude.{◌≡◌, refl, Bool, true, false, ◌&&◌, get_or, set, drop, leb}
 use Rattle.std.proofs.Math.Path.{sym, ap}
 use Rattle.std.proofs.Common.{◌∙◌, subst, add-one, arith, drop_of_length-le, drop-cons}
@@ -8,18 +8,16 @@ use Rattle.std.proofs.Math.Bool.{cond}
 use Rattle.std.proofs.Math.ListN.{length, length-set}
 use Rattle.std.proofs.lemmas.List.{length-map}
 use Rattle.std.proofs.Math.Seq.{sets}
-use Rattle.sets.specs.Sets.{has, single, union, lowest}
-use Rattle.sets.specs.Laws.{meet_lt}
+use Rattle.sets.specs.Sets.{has, single, union}
 use Rattle.sets.specs.Truth.{and_left, and_right}
 use Rattle.tables.specs.Tables.{row}
 use Rattle.numbers.specs.Numbers.{Spliced}
 use Rattle.numbers.specs.Laws.{spliced_then}
 use Rattle.tables.specs.Laws.{rows_at}
 use Rattle.arrows.specs.Arrows.{Arrow, arrows_in, links, link_in_order, put, put_all, place, spelt, arrows_body}
-use Rattle.sets.specs.Later.{later, later_minus}
 use Rattle.arrows.specs.Lists.{listed_length}
 use Rattle.arrows.specs.Places.{fit_from, fit_places, length_spelt, spelt_append}
-use Rattle.arrows.specs.Rows.{members, members_none, members_more, toward, row_arrows, kind_arrows, count_of, count_arrows, count_mono}
+use Rattle.arrows.specs.Rows.{members, toward, row_arrows, kind_arrows, count_of, count_arrows, count_mono}
 use Rattle.arrows.specs.Rows.{kind_rows, Kept, turned_in, length_turned, from_rows, first_kinds, count_kinds, count_kinds_lem, by_kind}
 
 -- ---- reading
@@ -109,23 +107,6 @@ module _ (n : ℕ) (s table₀ : List ℕ) (next i : ℕ) (table : List ℕ) (r 
 
 -- ---- writing
 
-members_later : (x : ℕ) → x < 2 ^ 64 → (x ≡ 0 → ⊥) → members x ≡ lowest 64 x ∷ members (later x)
-members_later x small some = members_more x small some ∙ ap (λ (y : ℕ). lowest 64 x ∷ members y) (sym (later_minus 64 x small some))
-
--- the lowest step of a row, and the rest of the row
-pub row_more : (k a x : ℕ) → x < 2 ^ 64 → (x ≡ 0 → ⊥) → row_arrows k a x ≡ toward k a (lowest 64 x) ∷ row_arrows k a (later x)
-row_more k a x small some = ap (map (toward k a)) (members_later x small some)
-
-pub row_none : (k a x : ℕ) → x ≡ 0 → row_arrows k a x ≡ []
-row_none k a x e = ap (row_arrows k a) e ∙ ap (map (toward k a)) members_none
-
--- one step fewer
-pub members_less : (x : ℕ) → x < 2 ^ 64 → (x ≡ 0 → ⊥) → length (members x) ≡ suc (length (members (later x)))
-members_less x small some = ap length (members_later x small some)
-
-pub members_nil : (x : ℕ) → x ≡ 0 → length (members x) ≡ 0
-members_nil x e = ap (λ (y : ℕ). length (members y)) e ∙ ap length members_none
-
 sets_three : (l v : List ℕ) (i a b c : ℕ) → sets l i (a ∷ b ∷ c ∷ v) ≡ sets (set (set (set l i a) (i + 1) b) (i + 2) c) (i + 3) v
 sets_three l v i a b c =
     let p : suc i ≡ i + 1 = omega arith in
@@ -136,47 +117,42 @@ sets_three l v i a b c =
 pub length_row : (k a x : ℕ) → length (spelt (row_arrows k a x)) ≡ 3 * length (members x)
 length_row k a x = length_spelt (row_arrows k a x) ∙ ap (λ (n : ℕ). 3 * n) (length-map (members x) (toward k a))
 
--- a row of which the steps in `rest` are left to write: stored from `to` on, they give what the whole row gives from `at` on
-pub record RowLeft (k a x at : ℕ) (old : List ℕ) (rest to : ℕ) (room : List ℕ) : Type 0 where
-  pub ends : to + 3 * length (members rest) ≡ at + 3 * length (members x)
+-- a row of which these steps are left to write: stored from `to` on, they give what the whole row gives from `at` on
+pub record RowLeft (k a x at : ℕ) (old steps : List ℕ) (to : ℕ) (room : List ℕ) : Type 0 where
+  pub ends : to + 3 * length steps ≡ at + 3 * length (members x)
   pub long : length room ≡ length old
-  pub small : rest < 2 ^ 64
-  pub stored : sets old at (spelt (row_arrows k a x)) ≡ sets room to (spelt (row_arrows k a rest))
+  pub stored : sets old at (spelt (row_arrows k a x)) ≡ sets room to (spelt (map (toward k a) steps))
 
-module _ {k a x at : ℕ} {old : List ℕ} {rest to : ℕ} {room : List ℕ} (r : RowLeft k a x at old rest to room) where
+module _ {k a x at : ℕ} {old : List ℕ} {to : ℕ} {room : List ℕ} where
   -- while a step is left, an arrow of it has room
-  pub row_room : (rest ≡ 0 → ⊥) → to + 3 ≤ at + 3 * length (members x)
-  row_room some =
-      let e = r.ends in
-      let less : length (members rest) ≡ suc (length (members (later rest))) = members_less rest r.small some in
-      omega arith
+  pub row_room : {b : ℕ} {steps more : List ℕ} → RowLeft k a x at old steps to room → steps ≡ b ∷ more
+      → to + 3 ≤ at + 3 * length (members x)
+  row_room r e = let n = ap length e in let t = r.ends in omega arith
 
-  -- the lowest step is written
-  pub row_next : (rest ≡ 0 → ⊥)
-      → RowLeft k a x at old (later rest) (to + 3) (set (set (set room to k) (to + 1) a) (to + 2) (lowest 64 rest))
+  -- the next step is written
+  pub row_next : {b : ℕ} {steps more : List ℕ} → RowLeft k a x at old steps to room → steps ≡ b ∷ more
+      → RowLeft k a x at old more (to + 3) (set (set (set room to k) (to + 1) a) (to + 2) b)
   unfolding spelt
-  row_next some =
-      let e = r.ends in
-      let less : length (members rest) ≡ suc (length (members (later rest))) = members_less rest r.small some in
+  row_next {b} {steps} {more} r e =
+      let n = ap length e in
+      let t = r.ends in
       record {
         ends = omega arith;
         long = simp length-set r.long;
-        small = meet_lt 64 rest (rest - 1) r.small;
-        stored = r.stored
-            ∙ ap (λ (l : List Arrow). sets room to (spelt l)) (row_more k a rest r.small some)
-            ∙ sets_three room (spelt (row_arrows k a (later rest))) to k a (lowest 64 rest);
+        stored = r.stored ∙ ap (λ (l : List ℕ). sets room to (spelt (map (toward k a) l))) e
+            ∙ sets_three room (spelt (map (toward k a) more)) to k a b;
       }
 
   -- none is left
-  pub row_written : rest ≡ 0 → Spliced (spelt (row_arrows k a x)) at old room to
+  pub row_written : {steps : List ℕ} → RowLeft k a x at old steps to room → steps ≡ [] → Spliced (spelt (row_arrows k a x)) at old room to
   unfolding spelt
-  row_written none =
-      let e = r.ends in
-      let nil : length (members rest) ≡ 0 = members_nil rest none in
+  row_written r none =
+      let t = r.ends in
+      let nil = ap length none in
       let long : length (spelt (row_arrows k a x)) ≡ 3 * length (members x) = length_row k a x in
       record {
         next = omega arith;
-        stored = sym (r.stored ∙ ap (λ (l : List Arrow). sets room to (spelt l)) (row_none k a rest none));
+        stored = sym (r.stored ∙ ap (λ (l : List ℕ). sets room to (spelt (map (toward k a) l))) none);
       }
 
 pub length_kind : (k n : ℕ) (rows : ℕ → ℕ) → length (spelt (kind_arrows k n rows)) ≡ 3 * count_of n rows
@@ -312,23 +288,19 @@ unfolding put_all
 put_all_append t [] m = refl
 put_all_append t (x ∷ rest) m = put_all_append (put t x) rest m
 
--- a row of which the steps in `rest` are left to put: put into the table as it stands, they give what the whole row gives
-pub record SpillLeft (x b : ℕ) (old : List ℕ) (rest : ℕ) (table : List ℕ) : Type 0 where
-  pub small : rest < 2 ^ 64
-  pub filled : put_all old (row_arrows 0 b x) ≡ put_all table (row_arrows 0 b rest)
+-- a row of which these steps are left to put: put into the table as it stands, they give what the whole row gives
+abbrev pub SpillLeft : ℕ → ℕ → List ℕ → List ℕ → List ℕ → Type 0
+SpillLeft x b old steps table = put_all old (row_arrows 0 b x) ≡ put_all table (map (toward 0 b) steps)
 
-module _ {x b : ℕ} {old : List ℕ} {rest : ℕ} {table : List ℕ} (l : SpillLeft x b old rest table) where
-  pub spill_next : (rest ≡ 0 → ⊥)
-      → SpillLeft x b old (later rest) (set table (lowest 64 rest) (union (row table (lowest 64 rest)) (single b)))
-  unfolding put_all put
-  spill_next some = record {
-    small = meet_lt 64 rest (rest - 1) l.small;
-    filled = l.filled ∙ ap (put_all table) (row_more 0 b rest l.small some);
-  }
+pub spill_next : {a : ℕ} {steps more : List ℕ} (x b : ℕ) (old table : List ℕ) → SpillLeft x b old steps table → steps ≡ a ∷ more
+    → SpillLeft x b old more (set table a (union (row table a) (single b)))
+unfolding put_all put
+spill_next x b old table l e = l ∙ ap (λ (m : List ℕ). put_all table (map (toward 0 b) m)) e
 
-  pub spill_done : rest ≡ 0 → table ≡ put_all old (row_arrows 0 b x)
-  unfolding put_all
-  spill_done none = sym (l.filled ∙ ap (put_all table) (row_none 0 b rest none))
+pub spill_done : {steps : List ℕ} (x b : ℕ) (old table : List ℕ) → SpillLeft x b old steps table → steps ≡ []
+    → table ≡ put_all old (row_arrows 0 b x)
+unfolding put_all
+spill_done x b old table l e = sym (l ∙ ap (λ (m : List ℕ). put_all table (map (toward 0 b) m)) e)
 
 pub turn_more : (t : List ℕ) (b : ℕ) (rows : ℕ → ℕ)
     → put_all (put_all t (kind_arrows 0 b rows)) (row_arrows 0 b (rows b)) ≡ put_all t (kind_arrows 0 (b + 1) rows)

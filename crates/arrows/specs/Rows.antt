@@ -1,9 +1,9 @@
 -- The arrows of a table row by row, as the writer goes: a kind, then a step that arrows come from, then the steps of its row, the lowest
 -- first. Conditions stand with the step that waits, so their table is turned first. Assumes nothing.
 use Prim.Native.Nat.{ℕ, zero, suc, ◌+◌, ◌-◌, ◌*◌, ◌/◌, ◌%◌, ◌^◌, ◌≤◌, ◌<◌}
-use Rattle.std.specs.Prelude.{◌≡◌, refl, Bool, true, false, not, ◌&&◌, length, replicate, eqb}
+use Rattle.std.specs.Prelude.{◌≡◌, refl, Bool, true, false, length, replicate, eqb}
 use Rattle.std.proofs.Math.Path.{sym, ap, ap₂}
-use Rattle.std.proofs.Common.{◌∙◌, subst, true≢false, zero-add, zero-mul, suc-mul, not-suc-le-zero, le_of_eq, length-append, lit<, eq-eqb, ne_eqb}
+use Rattle.std.proofs.Common.{◌∙◌, subst, zero-add, zero-mul, suc-mul, not-suc-le-zero, le_of_eq, length-append, lit<}
 use mathlib.Core.List.{List, [], ◌∷◌, ◌++◌, map, append-nil}
 use Rattle.std.proofs.Math.Nat.{two-pow-succ}
 use native.Mathlib.Omega.{arith}
@@ -11,56 +11,18 @@ use Rattle.std.proofs.Math.Decide.{dec_lt}
 use Rattle.std.proofs.lemmas.List.{length-map}
 use Rattle.std.proofs.Math.ListN.{get_or-eq_default}
 use Rattle.std.specs.Int.Count.{ones, ones_step}
-use Rattle.sets.specs.Sets.{has, single, minus, lowest}
-use Rattle.sets.specs.Laws.{Least, lowest_least, lowest_has, has_minus, has_single, has_zero, has_above, ext, has_half, has_low}
-use Rattle.sets.specs.Truth.{and_false, and_true}
+use Rattle.sets.specs.Sets.{has}
+pub use Rattle.sets.specs.Sets.{members}
+pub use Rattle.sets.specs.Members.{members_none, members_more}
+use Rattle.sets.specs.Laws.{has_zero, has_above, ext, has_half, has_low}
 use Rattle.tables.specs.Tables.{row, table_at, keeps}
 use Rattle.tables.specs.Laws.{row_at_lem, keeps_row, keeps_gone}
 use Rattle.arrows.specs.Arrows.{Arrow, put_all, held, place, arrow_at, listed, kept_if, arrows_of}
-use Rattle.arrows.specs.Lists.{member, listed_same, listed_add, listed_none, listed_first, member_listed}
+use Rattle.arrows.specs.Lists.{member, listed_add, member_listed}
 use Rattle.arrows.specs.Places.{place_arrow_at}
 use Rattle.arrows.specs.Table.{AllIn, held_filled, rows_filled, length_filled, row_other, column_other}
 
--- ---- the steps of a set, in order
-
-abbrev pub members : ℕ → List ℕ
-members x = listed 64 0 (has x)
-
-pub members_none : members 0 ≡ []
-members_none = listed_none 64 0 (has 0) (λ p h l. has_zero p)
-
--- the lowest, and then the others
-pub members_more : (x : ℕ) → x < 2 ^ 64 → (x ≡ 0 → ⊥) → members x ≡ lowest 64 x ∷ members (minus x (single (lowest 64 x)))
-unfolding listed
-members_more x small some =
-    let r = lowest 64 x in
-    let y = minus x (single r) in
-    let l : Least 64 x r = lowest_least 64 x in
-    let here : has x r ≡ true = lowest_has 64 x small some in
-    let low : r < 64 = below r here (dec_lt r 64) in
-    let d = 63 - r in
-    let e : r + suc d ≡ 64 = omega arith in
-    let gone : has y r ≡ false =
-    has_minus x (single r) r ∙ ap (λ (b : Bool). has x r && not b) (has_single r r ∙ eq-eqb r r refl) ∙ and_false (has x r) in
-    let low_none : listed r 0 (has y) ≡ [] =
-    listed_none r 0 (has y)
-    (λ p h i. has_minus x (single r) p ∙ ap (λ (b : Bool). b && not (has (single r) p)) (l.none p (omega arith))) in
-    let high_same : listed d (suc r) (has y) ≡ listed d (suc r) (has x) =
-    listed_same d (suc r) (has y) (has x)
-    (λ p h i. has_minus x (single r) p
-    ∙ ap (λ (b : Bool). has x p && not b) (has_single r p ∙ ne_eqb r p (λ q. let z : ⊥ = omega arith in z))
-    ∙ and_true (has x p)) in
-    let rest : listed 64 0 (has y) ≡ listed d (suc r) (has x) =
-    ap (λ (k : ℕ). listed k 0 (has y)) (sym e)
-    ∙ listed_add r (suc d) 0 (has y)
-    ∙ ap₂ (λ (m : List ℕ) (t : ℕ). m ++ listed (suc d) t (has y)) low_none (let z : 0 + r ≡ r = omega arith in z)
-    ∙ ap (λ (b : Bool). kept_if b r (listed d (suc r) (has y))) gone
-    ∙ high_same in
-    ap (λ (k : ℕ). listed k 0 (has x)) (sym e) ∙ listed_first r d (has x) l.none here ∙ ap (λ (m : List ℕ). r ∷ m) (sym rest)
-  where
-    below : (r : ℕ) → has x r ≡ true → Dec (r < 64) → r < 64
-    below r h (yes l) = l
-    below r h (no l) = absurd (true≢false (sym h ∙ has_above 64 x r small (omega arith)))
+-- ---- how many steps a set has
 
 listed_shift : (k s : ℕ) (f g : ℕ → Bool) → ((p : ℕ) → f (suc p) ≡ g p) → length (listed k (suc s) f) ≡ length (listed k s g)
 unfolding listed

@@ -10,6 +10,8 @@ use Rattle.sets.specs.Laws.{ext, has_union}
 use Rattle.tables.specs.Tables.{row}
 use Rattle.numbers.specs.Numbers.{number, Bytes}
 use Rattle.numbers.specs.Laws.{number_two}
+use Rattle.std.specs.Prelude.{Option, MatchOption, Some}
+use Rattle.arrows.specs.declared.runs.Run.{Run}
 use Rattle.arrows.specs.Arrows.{Arrow, place, put}
 use Rattle.arrows.specs.Table.{row_condition, row_other, column_condition, column_other}
 use Rattle.arrows.specs.Loops.{passes, arrow_in, Goes, goes_start, goes_then, goes_more, Reading}
@@ -17,6 +19,13 @@ use Rattle.arrows.specs.Loops.{passes, arrow_in, Goes, goes_start, goes_then, go
 -- the arrow at i begins with the bytes of the head, and points at a step below n that is not below `least`
 abbrev pub goes_on : List ℕ → ℕ → ℕ → ℕ → ℕ → Bool
 goes_on s i head n least = ltb i (length s) && (eqb (number 2 (drop i s)) head && leb least (get_or s (i + 2) 0) && ltb (get_or s (i + 2) 0) n)
+
+-- a run one arrow further, with the step that the arrow points at; or the run as it was, where it does not go on
+abbrev pub Advances : Run → Option ℕ → Run → Type 0
+Advances r b t = MatchOption b ((goes_on r.s.now r.at r.head r.n r.least ≡ false) × (t ≡ r)) (λ x.
+    (goes_on r.s.now r.at r.head r.n r.least ≡ true)
+    × (x ≡ get_or r.s.now (r.at + 2) 0)
+    × (t ≡ record { s = r.s; n = r.n; head = r.head; at = r.at + 3; least = x + 1 }))
 
 -- the row of an arrow that is no condition
 abbrev pub source_row : Arrow → ℕ
@@ -66,11 +75,6 @@ pub record Taken (n : ℕ) (s : List ℕ) (at : ℕ) (old : List ℕ) (i next : 
   pub reached : Reached s at i
   pub puts : Puts n s at old next i table
 
--- the same, not put yet: its arrows are the steps of one row, whatever the table
-pub record Collected (n : ℕ) (s : List ℕ) (at i next steps : ℕ) : Type 0 where
-  pub reached : Reached s at i
-  pub puts : (old : List ℕ) → Puts n s at old next i (pointed old (source_row (arrow_in s at)) steps)
-
 -- an arrow that passes begins a run
 pub begins : (n next : ℕ) (s : List ℕ) (at : ℕ) → n ≤ 64 → length s % 3 ≡ 0 → at % 3 ≡ 0 → at < length s
     → passes n next (arrow_in s at) ≡ true → Begins n s at
@@ -90,11 +94,6 @@ begins n next s at few whole starts inside e =
       to_in = ltb-true (get_or s (at + 2) 0) n (and_right (k && a) b all);
     }
 
--- a run that is collected is taken once its steps stand in their row
-pub collected_taken : {n : ℕ} {s : List ℕ} {at i next steps : ℕ} {table : List ℕ} (old : List ℕ) → Collected n s at i next steps
-    → table ≡ pointed old (source_row (arrow_in s at)) steps → Taken n s at old i next table
-collected_taken old c e = record { reached = c.reached; puts = rw e (c.puts old) }
-
 -- an arrow that passes, taken with the run that it begins, leaves what is behind the run to read
 pub reading_run : {n : ℕ} {s start : List ℕ} {next i : ℕ} {table : List ℕ} {j least : ℕ} {new : List ℕ} → Reading n s start next i table
     → Taken n s i table j least new → i + 2 < length s → passes n next (arrow_in s i) ≡ true → Reading n s start least j new
@@ -110,6 +109,14 @@ pub record On (n : ℕ) (s : List ℕ) (at i least : ℕ) : Type 0 where
   pub froms : get_or s (i + 1) 0 ≡ get_or s (at + 1) 0
   pub low : least ≤ get_or s (i + 2) 0
   pub to_in : get_or s (i + 2) 0 < n
+
+-- r is the run that began at `at`, read up to where it stands
+pub record Under (n : ℕ) (s : List ℕ) (at : ℕ) (r : Run) : Type 0 where
+  pub text : r.s.now ≡ s
+  pub steps : r.n ≡ n
+  pub heads : r.head ≡ number 2 (drop at s)
+  pub reached : Reached s at r.at
+  pub few : r.least ≤ 64
 
 -- the least place that an arrow of the run can have
 abbrev pub base : List ℕ → ℕ → ℕ
@@ -136,6 +143,26 @@ module _ (n : ℕ) (s : List ℕ) (at : ℕ) (b : Begins n s at) where
         low = leb-true least (get_or s (i + 2) 0) (and_right q l two);
         to_in = ltb-true (get_or s (i + 2) 0) n (and_right (q && l) t all);
       }
+
+  -- a run on its way goes on with the step that it gives
+  pub under_on : (r t : Run) (x : ℕ) → Bytes s → Under n s at r → Advances r (Some x) t → On n s at r.at r.least
+  under_on r t x bytes u a = on r.head r.at r.least bytes u.heads u.reached (rw (← u.text, ← u.steps) a.0)
+
+  pub under_more : (r t : Run) (x : ℕ) → Bytes s → Under n s at r → Advances r (Some x) t → Under n s at t
+  under_more r t x bytes u a =
+      let o : On n s at r.at r.least = under_on r t x bytes u a in
+      let few = b.few in
+      let reached = u.reached in
+      let step : x ≡ get_or s (r.at + 2) 0 = rw (← u.text) a.1 in
+      rw a.2 (
+      record {
+        text = u.text;
+        steps = u.steps;
+        heads = u.heads;
+        reached = record { further = omega arith; within = omega arith; ends = omega arith };
+        few = omega arith;
+      }
+      )
 
   -- the first arrow of a run, put
   pub puts_first : (old table : List ℕ) → put old (arrow_in s at) ≡ table
@@ -171,11 +198,13 @@ module _ (n : ℕ) (s : List ℕ) (at : ℕ) (b : Begins n s at) (e : (arrow_in 
   wait_first table g =
       puts_first n s at b old table (wait_put old (arrow_in s at) e ∙ ap (pointed old (get_or s (at + 2) 0)) (sym f) ∙ sym g)
 
-  pub wait_more : (i least : ℕ) (table new : List ℕ) → On n s at i least → new ≡ pointed table (get_or s (i + 2) 0) one
-      → Puts n s at old (base s at + least) i table → Puts n s at old (base s at + (get_or s (i + 2) 0 + 1)) (i + 3) new
-  wait_more i least table new o g =
-      puts_more n s at b old i least table new o
-      (wait_put table (arrow_in s i) (o.kinds ∙ e) ∙ ap (pointed table (get_or s (i + 2) 0)) (ap single o.froms ∙ sym f) ∙ sym g)
+  pub wait_more : (r t : Run) (x : ℕ) (table new : List ℕ) → Bytes s → Under n s at r → Advances r (Some x) t → new ≡ pointed table x one
+      → Puts n s at old (base s at + r.least) r.at table → Puts n s at old (base s at + t.least) t.at new
+  wait_more r t x table new bytes u a g =
+      let o : On n s at r.at r.least = under_on n s at b r t x bytes u a in
+      let step : x ≡ get_or s (r.at + 2) 0 = rw (← u.text) a.1 in
+      rw (a.2, step) (puts_more n s at b old r.at r.least table new o
+      (wait_put table (arrow_in s r.at) (o.kinds ∙ e) ∙ ap₂ (pointed table) (sym step) (ap single o.froms ∙ sym f) ∙ sym g))
 
 -- ---- the other kinds: all of a run stand in one row
 
@@ -205,12 +234,17 @@ module _ (n : ℕ) (s : List ℕ) (at : ℕ) (b : Begins n s at) (e : 0 < (arrow
   pub point_first : Puts n s at old (base s at + (get_or s (at + 2) 0 + 1)) (at + 3) (gathered (single (get_or s (at + 2) 0)))
   point_first = puts_first n s at b old _ (point_put old (arrow_in s at) e)
 
-  pub point_more : (i least steps : ℕ) → On n s at i least → Puts n s at old (base s at + least) i (gathered steps)
-      → Puts n s at old (base s at + (get_or s (i + 2) 0 + 1)) (i + 3) (gathered (union steps (single (get_or s (i + 2) 0))))
-  point_more i least steps o =
-      let some : 0 < get_or s i 0 = omega arith in
-      let one : source_row (arrow_in s i) ≡ source_row (arrow_in s at) = omega arith in
-      puts_more n s at b old i least (gathered steps) _ o
-      (point_put (gathered steps) (arrow_in s i) some
-      ∙ ap (λ (j : ℕ). pointed (gathered steps) j (single (get_or s (i + 2) 0))) one
-      ∙ point_twice old (source_row (arrow_in s at)) steps (single (get_or s (i + 2) 0)))
+  pub point_more : (r t : Run) (x steps : ℕ) → Bytes s → Under n s at r → Advances r (Some x) t
+      → Puts n s at old (base s at + r.least) r.at (gathered steps)
+      → Puts n s at old (base s at + t.least) t.at (gathered (union steps (single x)))
+  point_more r t x steps bytes u a =
+      let o : On n s at r.at r.least = under_on n s at b r t x bytes u a in
+      let step : x ≡ get_or s (r.at + 2) 0 = rw (← u.text) a.1 in
+      let kinds = o.kinds in
+      let froms = o.froms in
+      let some : 0 < get_or s r.at 0 = omega arith in
+      let one : source_row (arrow_in s r.at) ≡ source_row (arrow_in s at) = omega arith in
+      rw (a.2, step) (puts_more n s at b old r.at r.least (gathered steps) _ o
+      (point_put (gathered steps) (arrow_in s r.at) some
+      ∙ ap (λ (j : ℕ). pointed (gathered steps) j (single (get_or s (r.at + 2) 0))) one
+      ∙ point_twice old (source_row (arrow_in s at)) steps (single (get_or s (r.at + 2) 0))))

@@ -9,30 +9,30 @@ ghost use Rattle.arrows.specs.Arrows.{arrows_in, link_in_order, put_all, spelt, 
 ghost use Rattle.arrows.specs.Rows.{members, row_arrows, kind_arrows, count_of, turned, turned_in, from_rows, Kept};
 ghost use Rattle.arrows.specs.Loops.{filled};
 
-use crate::runs::{fits, take};
+use crate::runs::{Arrow, Stop, take};
 
 pub mod runs;
 
-// Puts the arrows into the table, up to the first that does not fit. Do all fit?
+// Puts the arrows into the table, up to the first that does not fit. Do all fit? A `bool`, since on a refusal too the clause `table_after`
+// says what the table holds.
 pub fn read(s: &[u8], n: u8, table: &mut [u64; 256]) -> bool
     requires { (n ≤ 64) × (length s.now % 3 ≡ 0) }
     ensures value { result ≡ link_in_order n (arrows_in s.now) }
     ensures table_after { table.new ≡ filled n 0 table.old (arrows_in s.now) }
 {
-    let mut next = 0;
-    let mut i = 0;
-    while i < s.len() {
-        if !fits(n, next, s[i], s[i + 1], s[i + 2]) {
+    let mut stop = Stop { at: 0, next: 0 };
+    // Each turn takes a whole run, and where that ends is found on the way: no `for` goes so.
+    while stop.at < s.len() {
+        if !Arrow::read(s, stop.at).fits(n, stop.next) {
             return false;
         }
-        let stop = take(s, i, n, table);
-        next = stop.next;
-        i = stop.at;
+        stop = take(s, stop.at, n, table);
     }
     true
 }
 
 // How many steps are in x?
+#[tactic(auto, using(crate::specs::Rows::members_count))]
 fn many(x: u64) -> usize
     ensures { result ≡ length (members x) }
 {
@@ -45,11 +45,8 @@ fn count_kind(n: u8, rows: &[u64]) -> usize
     ensures { result ≡ count_of n (row rows.now) }
 {
     let mut found = 0;
-    let mut a = 0;
-    while a < n {
-        let i = a as usize;
-        found += many(rows[i]);
-        a += 1;
+    for x in &rows[..n as usize] {
+        found += many(*x);
     }
     found
 }
@@ -60,12 +57,8 @@ fn spill(x: u64, b: u8, table: &mut [u64; 64])
     ensures { table.new ≡ put_all table.old (row_arrows 0 b x) }
 {
     let one = sets::single(b);
-    let mut rest = x;
-    while rest != 0 {
-        let a = sets::lowest(rest);
-        let i = a as usize;
-        table[i] = table[i] | one;
-        rest = rest & (rest - 1);
+    for a in sets::members(x) {
+        table[a as usize] |= one;
     }
 }
 
@@ -75,11 +68,8 @@ pub fn turned(n: u8, rows: &[u64]) -> [u64; 64]
     ensures { result ≡ turned n (row rows.now) }
 {
     let mut table = [0u64; 64];
-    let mut b = 0;
-    while b < n {
-        let i = b as usize;
-        spill(rows[i], b, &mut table);
-        b += 1;
+    for b in 0..n {
+        spill(rows[b as usize], b, &mut table);
     }
     table
 }
@@ -89,15 +79,12 @@ fn write_row(k: u8, a: u8, x: u64, room: &mut [u8], at: usize) -> usize
     requires { at + 3 * length (members x) ≤ length room.old }
     ensures { Spliced (spelt (row_arrows k a x)) at room.old room.new result }
 {
-    let mut rest = x;
     let mut to = at;
-    while rest != 0 {
-        let b = sets::lowest(rest);
+    for b in sets::members(x) {
         room[to] = k;
         room[to + 1] = a;
         room[to + 2] = b;
         to += 3;
-        rest = rest & (rest - 1);
     }
     to
 }
@@ -108,16 +95,14 @@ fn write_kind(k: u8, n: u8, rows: &[u64], room: &mut [u8], at: usize) -> usize
     ensures { Spliced (spelt (kind_arrows k n (row rows.now))) at room.old room.new result }
 {
     let mut to = at;
-    let mut a = 0;
-    while a < n {
-        let i = a as usize;
-        to = write_row(k, a, rows[i], room, to);
-        a += 1;
+    for a in 0..n {
+        to = write_row(k, a, rows[a as usize], room, to);
     }
     to
 }
 
 // The rows of kind k by the step that its arrows come from. The conditions are turned already.
+#[tactic(auto, unfolding(crate::specs::Rows::from_rows))]
 fn from_rows<'a>(k: usize, conditions: &'a [u64], table: &'a [u64]) -> &'a [u64]
     requires { (k < 4) × (length table.now ≡ 256) }
     ensures { result.now ≡ from_rows conditions.now table.now k }
@@ -130,21 +115,20 @@ fn from_rows<'a>(k: usize, conditions: &'a [u64], table: &'a [u64]) -> &'a [u64]
     &table[from..end]
 }
 
-// How many bytes do the arrows of the table take?
+// How many bytes do the arrows of the table take? What is asked of n, the conditions and the table (`Kept`) stands in `size` and `write` alone,
+// so it has no type of its own.
 pub fn size<'a>(n: u8, conditions: &'a [u64], table: &'a [u64]) -> usize
     requires { Kept n table.now × (length table.now ≡ 256) × (conditions.now ≡ turned_in n table.now) }
     ensures { result ≡ length (arrows_body table.now) }
 {
     let mut found = 0;
-    let mut k = 0;
-    while k < 4 {
+    for k in 0..4 {
         found += count_kind(n, from_rows(k, conditions, table));
-        k += 1;
     }
     3 * found
 }
 
-// Writes the arrows of the table, and gives the place after them.
+// Writes the arrows of the table, and gives the place after them: `Spliced` speaks of the whole room and of that place.
 pub fn write<'a>(
     n: u8,
     conditions: &'a [u64],
@@ -157,11 +141,8 @@ pub fn write<'a>(
     ensures { Spliced (arrows_body table.now) at room.old room.new result }
 {
     let mut to = at;
-    let mut k = 0;
-    while k < 4 {
-        let i = k as usize;
-        to = write_kind(k, n, from_rows(i, conditions, table), room, to);
-        k += 1;
+    for k in 0..4 {
+        to = write_kind(k, n, from_rows(k as usize, conditions, table), room, to);
     }
     to
 }

@@ -5,7 +5,7 @@ ghost use Rattle.cabinet.specs.Cabinet.{by_step, responses_at, includes_at, excl
 ghost use Rattle.cabinet.specs.Rows.{count_at, word_at};
 
 use moves::Marking;
-use rules::{ALLOWS, CONDITIONS, EXCLUDES, HOLDS, INCLUDES, LABELS, RESPONSES, WORDS};
+use rules::{ALLOWS, CONDITIONS, EXCLUDES, HOLDS, INCLUDES, LABELS, RESPONSES};
 use sets::{single, span};
 
 pub fn arms_fit(arms: u64) -> bool
@@ -15,20 +15,20 @@ pub fn arms_fit(arms: u64) -> bool
 }
 
 // What stands in the row of step s.
+#[tactic(auto, unfolding(crate::specs::Cabinet::by_step))]
 fn by_step(arms: u64, s: u64, rebooting: u64, checking: u64, publishing: u64) -> u64
     requires { arms ≤ 16 }
     ensures { result ≡ by_step arms s rebooting checking publishing }
 {
     if s == 0 {
-        return rebooting;
+        rebooting
+    } else if s <= arms {
+        checking
+    } else if s == arms + 1 {
+        publishing
+    } else {
+        0
     }
-    if s <= arms {
-        return checking;
-    }
-    if s == arms + 1 {
-        return publishing;
-    }
-    0
 }
 
 fn responses(arms: u64, s: u64) -> u64
@@ -44,10 +44,7 @@ fn following(arms: u64, k: u64) -> u64
     ensures { result ≡ following arms k }
 {
     let last = arms + 1;
-    if k < arms {
-        return k + 1;
-    }
-    last
+    if k < arms { k + 1 } else { last }
 }
 
 fn includes(arms: u64, s: u64) -> u64
@@ -82,13 +79,11 @@ fn allows(arms: u64, a: u64) -> u64
 fn holds(p: u64) -> u64
     ensures { result ≡ holds_at p }
 {
-    if p == 0 {
-        return 1;
+    match p {
+        0 => 1,
+        1 => 2,
+        _ => 0,
     }
-    if p == 1 {
-        return 2;
-    }
-    0
 }
 
 fn label(arms: u64, s: u64) -> u64
@@ -98,46 +93,33 @@ fn label(arms: u64, s: u64) -> u64
     by_step(arms, s, s, s, s)
 }
 
+#[tactic(auto, unfolding(crate::specs::Rows::count_at))]
 fn count(arms: u64, at: usize) -> u64
     requires { arms ≤ 16 }
     ensures { result ≡ count_at arms at }
 {
-    if at == 1 {
-        return 2;
+    match at {
+        1 | 2 => 2,
+        _ => arms + 2,
     }
-    if at == 2 {
-        return 2;
-    }
-    arms + 2
 }
 
 // Word `at` of the block.
+#[tactic(auto, unfolding(crate::specs::Rows::word_at))]
 fn word(arms: u64, at: usize) -> u64
     requires { (2 ≤ arms) × (arms ≤ 16) × (at < 404) }
     ensures { result ≡ word_at arms at }
 {
-    if at < CONDITIONS {
-        return count(arms, at);
+    match at {
+        ..CONDITIONS => count(arms, at),
+        ..RESPONSES => 0,
+        ..INCLUDES => responses(arms, (at - RESPONSES) as u64),
+        ..EXCLUDES => includes(arms, (at - INCLUDES) as u64),
+        ..ALLOWS => excludes(arms, (at - EXCLUDES) as u64),
+        ..HOLDS => allows(arms, (at - ALLOWS) as u64),
+        ..LABELS => holds((at - HOLDS) as u64),
+        _ => label(arms, (at - LABELS) as u64),
     }
-    if at < RESPONSES {
-        return 0;
-    }
-    if at < INCLUDES {
-        return responses(arms, (at - RESPONSES) as u64);
-    }
-    if at < EXCLUDES {
-        return includes(arms, (at - INCLUDES) as u64);
-    }
-    if at < ALLOWS {
-        return excludes(arms, (at - EXCLUDES) as u64);
-    }
-    if at < HOLDS {
-        return allows(arms, (at - ALLOWS) as u64);
-    }
-    if at < LABELS {
-        return holds((at - HOLDS) as u64);
-    }
-    label(arms, (at - LABELS) as u64)
 }
 
 // Fills the block, word after word.
@@ -145,10 +127,8 @@ pub fn fill(arms: u64, block: &mut [u64])
     requires { (2 ≤ arms) × (arms ≤ 16) × (length block.old ≡ 404) }
     ensures { graph_of block.new ≡ cabinet arms }
 {
-    let mut i = 0;
-    while i < WORDS {
-        block[i] = word(arms, i);
-        i += 1;
+    for (at, x) in block.iter_mut().enumerate() {
+        *x = word(arms, at);
     }
 }
 

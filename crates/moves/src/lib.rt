@@ -8,7 +8,7 @@ pub mod inner;
 
 // A step, counted from 0.
 #[repr(C)]
-#[derive(Clone, Copy)]
+#[derive(Clone, Copy, PartialEq, Eq)]
 pub struct Step(pub u8);
 
 // A step's rank in the tracker, counted from 1.
@@ -17,7 +17,7 @@ pub struct Rank(pub u8);
 
 // A person takes a step in a role.
 #[repr(C)]
-#[derive(Clone, Copy)]
+#[derive(Clone, Copy, PartialEq, Eq)]
 pub struct Entry {
     pub person: u8,
     pub step: Step,
@@ -26,7 +26,7 @@ pub struct Entry {
 
 // Three sets of steps: done before (Ex), due (Re), included (In).
 #[repr(C)]
-#[derive(Clone, Copy)]
+#[derive(Clone, Copy, PartialEq, Eq)]
 pub struct Marking {
     pub done: u64,
     pub due: u64,

@@ -3,5 +3,7 @@ pub mod Truth
 pub mod Laws
 pub mod Digits
 pub mod Later
+pub mod Members
 pub mod Ranges
 pub mod Spans
+pub mod Walk

@@ -1,5 +1,5 @@
 -- Sets of steps. A set is a number: step s is in x exactly if digit s of x, in base two, is 1. Nothing here has a width.
-use Rattle.std.specs.Prelude.{ℕ, zero, suc, ◌-◌, ◌/◌, ◌%◌, ◌^◌, Bool, true, false, cond, ◌&&◌, ◌||◌, eqb, ltb}
+use Rattle.std.specs.Prelude.{ℕ, zero, suc, ◌-◌, ◌/◌, ◌%◌, ◌^◌, Bool, true, false, cond, ◌&&◌, ◌||◌, List, [], ◌∷◌, eqb, ltb}
 use Rattle.std.specs.Int.Bits.{bit_and, bit_or, bit_xor}
 
 -- step s is in x
@@ -69,3 +69,18 @@ any (suc k) p = any k p || p k
 -- the steps below n of which p holds
 abbrev pub those : ℕ → (ℕ → Bool) → ℕ
 those n p = gather n (λ s. cond (p s) (single s) 0)
+
+-- ---- steps in order
+
+abbrev pub kept_if : Bool → ℕ → List ℕ → List ℕ
+kept_if true p rest = p ∷ rest
+kept_if false p rest = rest
+
+-- those of the k numbers from s on for which f holds, in order
+unfoldable pub listed : ℕ → ℕ → (ℕ → Bool) → List ℕ
+listed zero s f = []
+listed (suc k) s f = kept_if (f s) s (listed k (suc s) f)
+
+-- the steps of a set, in order
+abbrev pub members : ℕ → List ℕ
+members x = listed 64 0 (has x)

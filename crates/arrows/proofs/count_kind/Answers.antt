@@ -1,36 +1,32 @@
 -- `count_kind`: found is what the rows passed hold. Assumes nothing.
-use Prim.Native.Nat.{ℕ, ◌+◌, ◌*◌, ◌≤◌}
-use mathlib.Core.Path.{◌≡◌, refl, sym, ap, ap₂, ◌∙◌}
-use native.Mathlib.Omega.{arith}
-use lib.ListN.{length}
-use borrow.Author.Rules.{rules}
+use Rattle.std.proofs.Common.{ℕ, ◌+◌, ◌*◌, ◌≤◌, ◌<◌, ◌≡◌, ◌∙◌, ap, ap₂, sym, arith, length, refl, rules}
+use Rattle.std.proofs.lemmas.List.{get_or-take}
 use Rattle.tables.specs.Tables.{row}
 use Rattle.arrows.specs.Rows.{members, count_of}
 use Rattle.arrows.specs.Loops.{count_more, count_most}
 use Rattle.arrows.proofs.count_kind.Goals as goal
 use Rattle.arrows.proofs.count_kind.Goals.{After-many-found}
 
-abbrev rows : After-many-found → ℕ → ℕ
-rows c = row c.args.rows.now
+-- what is found with the row at hand
+more : (c : After-many-found) → c.loop-x.found + c.many-found.result ≡ count_of (c.loop-x.x-index + 1) (row c.args.rows.now)
+more c =
+    let i = c.loop-x.x-index in
+    let rows = row c.args.rows.now in
+    let below : i < c.args.n = search rules in
+    ap₂ (λ (x y : ℕ). x + y) c.loop-x.invariant (c.many-found.ensures ∙ ap (λ (x : ℕ). length (members x)) (get_or-take c.args.n c.args.rows.now i 0 below))
+    ∙ sym (count_more i rows)
 
-pub loop-a-init : goal.loop-a-init
+pub loop-x-init : goal.loop-x-init
 unfolding count_of
-loop-a-init c = (search rules, refl)
+loop-x-init c = refl
 
 pub overflow_add-found : goal.overflow_add-found
 overflow_add-found c =
-    let a = c.loop-a.a in
-    let most : count_of (a + 1) (rows c) ≤ 64 * (a + 1) = count_most (a + 1) (rows c) in
-    let more : count_of (a + 1) (rows c) ≡ count_of a (rows c) + length (members (rows c a)) = count_more a (rows c) in
-    omega (arith, c.many-found.ensures)
+    let k = c.loop-x.x-index + 1 in
+    let most : count_of k (row c.args.rows.now) ≤ 64 * k = count_most k (row c.args.rows.now) in
+    let few : c.loop-x.x-index < c.args.n = search rules in
+    let n = c.requires.0 in
+    omega (arith, more c)
 
-pub loop-a-preserved : goal.loop-a-preserved
-loop-a-preserved c =
-    let l = c.loop-a in
-    (search rules, ap₂ (λ (x y : ℕ). x + y) l.invariant.1 c.many-found.ensures ∙ sym (count_more l.a (rows c)))
-
-pub returns : goal.returns
-returns c =
-    let a = c.args in
-    let l = c.loop-a in
-    l.invariant.1 ∙ ap (λ (k : ℕ). count_of k (row a.rows.now)) (let e : l.a ≡ a.n = omega arith in e)
+pub loop-x-preserved : goal.loop-x-preserved
+loop-x-preserved c = more (goal.at.loop-x-preserved c).After-many-found

@@ -1,11 +1,7 @@
-use Prim.Native.Nat.{◌-◌, ◌≤◌}
-use mathlib.Core.Path.{◌≡◌}
+use Rattle.std.proofs.Common.{◌≡◌}
 use Rattle.tables.specs.Tables.{row}
 use Rattle.arrows.specs.Rows.{count_of}
 use Rattle.arrows.proofs.count_kind.Given as goal
 
-abbrev pub invariant-loop-a : goal.invariant-loop-a
-invariant-loop-a l = (l.a ≤ l.n) × (l.found ≡ count_of l.a (row l.rows))
-
-abbrev pub decreases-loop-a : goal.decreases-loop-a
-decreases-loop-a l = l.n - l.a
+abbrev pub invariant-loop-x : goal.invariant-loop-x
+invariant-loop-x l = l.found ≡ count_of l.x-index (row l.rows)

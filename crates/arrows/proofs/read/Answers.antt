@@ -1,56 +1,44 @@
 -- `read`: what is left of the body decides what is left to do. An arrow that passes is put with the run that it begins, and one that does
 -- not ends the reading. Assumes nothing.
-use Prim.Native.Nat.{◌+◌, ◌<◌}
-use mathlib.Core.Path.{◌≡◌, sym, ◌∙◌}
-use mathlib.Core.Bool.{true}
-use native.Mathlib.Omega.{arith}
-use lib.ListN.{length}
-use borrow.Author.Rules.{rules}
-use Rattle.arrows.specs.Loops.{passes, arrow_in, goes_start, reading_refused, reading_done}
-use Rattle.arrows.specs.Runs.{begins, reading_run}
+use Rattle.std.proofs.Common.{arith, sym, ap, ◌∙◌, ◌≡◌, ◌+◌, ◌<◌, length, false}
+use Rattle.arrows.specs.Arrows.{arrows_in, link_in_order}
+use Rattle.arrows.specs.Loops.{passes, arrow_in, filled, reading_refused, reading_done}
+use Rattle.arrows.specs.Runs.{reading_run}
 use Rattle.arrows.proofs.read.Goals as goal
-use Rattle.arrows.proofs.read.Goals.{After-fits, Else-not-fits}
+use Rattle.arrows.proofs.read.Goals.{After-fits}
 
 -- a whole arrow stands there
-room : (f : After-fits) → f.loop-i.i + 2 < length f.args.s.now
-room f =
-    let there = f.loop-i-test.true in
+room : (c : After-fits) → c.loop-stop.stop.at + 2 < length c.args.s.now
+room c =
+    let whole = c.requires.1 in
+    let here = c.loop-stop.invariant.whole in
+    let there = c.loop-stop-test.true in
     omega arith
 
--- behind the test the arrow passes
-passing : (c : Else-not-fits)
-    → let l = c.loop-i in
-    passes c.args.n l.next (arrow_in c.args.s.now l.i) ≡ true
-passing c = sym c.fits.ensures ∙ c.if-not-fits.false
+-- it passes exactly if it fits
+passing : (c : After-fits) → c.fits.result ≡ passes c.args.n c.loop-stop.stop.next (arrow_in c.args.s.now c.loop-stop.stop.at)
+passing c = c.fits.ensures ∙ ap (passes c.args.n c.loop-stop.stop.next) c.read.ensures
 
-pub loop-i-init : goal.loop-i-init
-loop-i-init c = (search rules, search rules, goes_start _ _ _ _ _)
+refused : (c : After-fits) → c.fits.result ≡ false
+    → (false ≡ link_in_order c.args.n (arrows_in c.args.s.now)) × (c.loop-stop.table ≡ filled c.args.n 0 c.args.table.now (arrows_in c.args.s.now))
+refused c e = reading_refused _ _ _ _ _ _ c.loop-stop.invariant.reading c.requires.0 (room c) (sym (passing c) ∙ e)
 
 pub returns-then-not-fits : goal.returns-then-not-fits
 returns-then-not-fits c =
+    let r = refused (goal.at.returns-then-not-fits c).After-fits c.if-not-fits.true in
+    record { value = r.0; table_after = r.1 }
+
+pub loop-stop-preserved : goal.loop-stop-preserved
+loop-stop-preserved c =
+    let f = (goal.at.loop-stop-preserved c).After-fits in
+    let run = c.take-stop.ensures in
     record {
-      value = (reading_refused _ _ _ _ _ _ c.loop-i.invariant.2 c.requires.0 (room (goal.at.returns-then-not-fits c).After-fits)
-          (sym c.fits.ensures ∙ c.if-not-fits.true)).0;
-      table_after = (reading_refused _ _ _ _ _ _ c.loop-i.invariant.2 c.requires.0 (room (goal.at.returns-then-not-fits c).After-fits)
-          (sym c.fits.ensures ∙ c.if-not-fits.true)).1;
+      within = run.reached.within;
+      whole = run.reached.ends;
+      reading = reading_run c.loop-stop.invariant.reading run (room f) (sym (passing f) ∙ c.if-not-fits.false);
     }
-
-pub take-stop-requires : goal.take-stop-requires
-take-stop-requires c =
-    let pre = c.requires in
-    begins _ _ _ _ pre.0 pre.1 c.loop-i.invariant.1 c.loop-i-test.true (passing (goal.at.take-stop-requires c).Else-not-fits)
-
-pub loop-i-smaller : goal.loop-i-smaller
-loop-i-smaller c =
-    let run = c.take-stop.ensures in
-    let in-turn = c.loop-i-test.true in
-    omega arith
-
-pub loop-i-preserved : goal.loop-i-preserved
-loop-i-preserved c =
-    let run = c.take-stop.ensures in
-    (run.reached.within, run.reached.ends, reading_run c.loop-i.invariant.2 run (room (goal.at.loop-i-preserved c).After-fits) (passing (goal.at.loop-i-preserved c).Else-not-fits))
 
 pub returns : goal.returns
 returns c =
-    record { value = (reading_done _ _ _ _ _ _ c.loop-i.invariant.2 c.requires.0 c.loop-i-test.false).0; table_after = (reading_done _ _ _ _ _ _ c.loop-i.invariant.2 c.requires.0 c.loop-i-test.false).1 }
+    let r = reading_done _ _ _ _ _ _ c.loop-stop.invariant.reading c.requires.0 c.loop-stop-test.false in
+    record { value = r.0; table_after = r.1 }

@@ -1,10 +1,5 @@
 -- `size`: found is what the kinds passed have, and each arrow takes three bytes. Assumes nothing.
-use Prim.Native.Nat.{ℕ, ◌+◌, ◌*◌, ◌≤◌}
-use mathlib.Core.Path.{◌≡◌, refl, sym, ap, ap₂, ◌∙◌}
-use mathlib.Core.List.{List}
-use native.Mathlib.Omega.{arith}
-use lib.ListN.{length}
-use borrow.Author.Rules.{rules}
+use Rattle.std.proofs.Common.{ℕ, ◌+◌, ◌*◌, ◌≤◌, ◌≡◌, ◌∙◌, ap, ap₂, sym, arith, length, refl, List}
 use Rattle.tables.specs.Tables.{row}
 use Rattle.arrows.specs.Rows.{from_rows, count_of, count_kinds}
 use Rattle.arrows.specs.Loops.{kinds_count, kinds_most, length_from, length_body}
@@ -13,56 +8,45 @@ use Rattle.arrows.proofs.size.Goals.{After-count_kind-found}
 
 pub loop-k-init : goal.loop-k-init
 unfolding count_kinds
-loop-k-init c = (search rules, refl)
-
-pub from_rows-requires : goal.from_rows-requires
-from_rows-requires c = (c.loop-k-test.true, c.requires.1)
+loop-k-init c = refl
 
 pub count_kind-found-requires : goal.count_kind-found-requires
 count_kind-found-requires c =
     let a = c.args in
-    let k = c.loop-k.k in
     let few : a.n ≤ 64 = c.requires.0.few in
-    let rows : length (from_rows a.conditions.now a.table.now k) ≡ 64 =
-    length_from a.n a.conditions.now a.table.now c.requires.0 c.requires.2 c.requires.1 k
-    c.loop-k-test.true in
+    let rows : length (from_rows a.conditions.now a.table.now c.loop-k.k) ≡ 64 =
+    length_from a.n a.conditions.now a.table.now c.requires.0 c.requires.2 c.requires.1 c.loop-k.k c.loop-k-test.true in
     omega (arith, ap length c.from_rows.ensures)
-
--- how many arrows the first kinds have
-abbrev up_to : After-count_kind-found → ℕ → ℕ
-up_to c k = let a = c.args in count_kinds k a.n a.conditions.now a.table.now
 
 -- what is found so far, with the kind at hand, is what there is up to the next
 found-more : (c : After-count_kind-found)
-    → c.loop-k.found + c.count_kind-found.result ≡ up_to c (c.loop-k.k + 1)
+    → c.loop-k.found + c.count_kind-found.result ≡ count_kinds (c.loop-k.k + 1) c.args.n c.args.conditions.now c.args.table.now
 found-more c =
     let a = c.args in
     let l = c.loop-k in
-    ap₂ (λ (x y : ℕ). x + y) l.invariant.1
+    ap₂ (λ (x y : ℕ). x + y) l.invariant
     (c.count_kind-found.ensures ∙ ap (λ (t : List ℕ). count_of a.n (row t)) c.from_rows.ensures)
     ∙ sym (kinds_count l.k a.n a.conditions.now a.table.now)
 
 pub overflow_add-found : goal.overflow_add-found
 overflow_add-found c =
+    let a = c.args in
     let k = c.loop-k.k + 1 in
-    let most : up_to c k ≤ k * 4096 = kinds_most k _ _ _ c.requires.0.few in
+    let most : count_kinds k a.n a.conditions.now a.table.now ≤ k * 4096 = kinds_most k _ _ _ c.requires.0.few in
     omega (arith, found-more c)
 
 pub loop-k-preserved : goal.loop-k-preserved
-loop-k-preserved c = (search rules, found-more c)
+loop-k-preserved c = found-more (goal.at.loop-k-preserved c).After-count_kind-found
 
 pub overflow_mul-result : goal.overflow_mul-result
 overflow_mul-result c =
     let a = c.args in
     let l = c.loop-k in
-    let most : count_kinds l.k a.n a.conditions.now a.table.now ≤ l.k * 4096 =
-    kinds_most l.k a.n a.conditions.now a.table.now c.requires.0.few in
+    let most : count_kinds l.k a.n a.conditions.now a.table.now ≤ l.k * 4096 = kinds_most l.k _ _ _ c.requires.0.few in
     omega arith
 
 pub returns : goal.returns
 returns c =
     let a = c.args in
-    let l = c.loop-k in
-    let all : l.found ≡ count_kinds 4 a.n a.conditions.now a.table.now =
-    l.invariant.1 ∙ ap (λ (k : ℕ). count_kinds k a.n a.conditions.now a.table.now) (let e : l.k ≡ 4 = omega arith in e) in
-    ap (λ (x : ℕ). 3 * x) all ∙ sym (length_body a.n a.conditions.now a.table.now c.requires.0 c.requires.2)
+    let all : c.loop-k.k ≡ 4 = omega arith in
+    ap (λ (x : ℕ). 3 * x) (rw all at c.loop-k.invariant) ∙ sym (length_body a.n a.conditions.now a.table.now c.requires.0 c.requires.2)

@@ -1,8 +1,6 @@
 -- `write_kind`: the rows passed are written, one after the other. The kind was promised room for all its rows, so the next one has room.
 -- Assumes nothing.
-use mathlib.Core.Path.{◌≡◌, refl, ◌∙◌}
-use native.Mathlib.Omega.{arith}
-use borrow.Author.Rules.{rules}
+use Rattle.std.proofs.Common.{refl, ◌∙◌, ◌≡◌, arith}
 use Rattle.tables.specs.Tables.{row}
 use Rattle.numbers.specs.Laws.{spliced_length}
 use Rattle.arrows.specs.Loops.{kind_none, kind_more, kind_room}
@@ -11,7 +9,7 @@ use Rattle.arrows.proofs.write_kind.Goals as goal
 pub loop-a-init : goal.loop-a-init
 loop-a-init c =
     let a = c.args in
-    record { few = search rules; long = refl; spliced = kind_none a.k a.at (row a.rows.now) a.room.now }
+    record { long = refl; spliced = kind_none a.k a.at (row a.rows.now) a.room.now }
 
 pub write_row-to-requires : goal.write_row-to-requires
 write_row-to-requires c =
@@ -25,14 +23,10 @@ loop-a-preserved c =
     let a = c.args in
     let wrote = c.write_row-to.ensures in
     record {
-      few = search rules;
       long = spliced_length _ _ _ _ _ wrote ∙ c.loop-a.invariant.long;
       spliced = kind_more a.k c.loop-a.a a.at (row a.rows.now) a.room.now c.loop-a.room _ c.loop-a.to _
           c.loop-a.invariant.spliced wrote;
     }
-
-pub shape_of-room : goal.shape_of-room
-shape_of-room c = c.loop-a.invariant.long
 
 pub returns : goal.returns
 returns c =

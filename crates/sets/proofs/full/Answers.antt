@@ -1,9 +1,8 @@
 -- `sets::full`: the steps below n are 2 ^ (n - 1) and all digits below it, a sum that fits the word at n = 64 too. Assumes nothing.
-use Prim.Native.Nat.{ℕ, ◌+◌, ◌-◌, ◌≤◌, ◌^◌}
+use Prim.Native.Nat.{ℕ, ◌+◌, ◌-◌}
 use mathlib.Core.Path.{◌≡◌, ◌∙◌, ap, sym}
 use native.Mathlib.Nat.{not-suc-le-zero}
 use native.Mathlib.Omega.{arith, ne_cases}
-use lib.Pow.{pow_pos, pow_mono}
 use Rattle.sets.specs.Sets.{full}
 use Rattle.sets.specs.Laws.{full_double}
 use Rattle.sets.proofs.full.Goals as goal
@@ -11,15 +10,6 @@ use Rattle.sets.proofs.full.Goals as goal
 pub returns-then-n-eq0 : goal.returns-then-n-eq0
 unfolding full
 returns-then-n-eq0 c = sym (ap full c.if-n-eq0.true)
-
-pub overflow_sub-result : goal.overflow_sub-result
-overflow_sub-result c = rw c.single-top.ensures (pow_pos (c.args.n - 1))
-
-pub overflow_add-result : goal.overflow_add-result
-overflow_add-result c =
-    let n = c.args.n in
-    let top : 2 ^ (n - 1) ≤ 2 ^ 63 = pow_mono (let z : n - 1 ≤ 63 = omega arith in z) in
-    rw c.single-top.ensures (omega arith)
 
 pub returns : goal.returns
 returns c =
