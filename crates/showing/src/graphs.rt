@@ -109,10 +109,8 @@ fn say_arrow(page: &mut Page, kind: Kind, a: usize, b: u8) {
 // The arrows of a kind: row a holds the steps that a points at.
 fn say_kind(page: &mut Page, kind: Kind, rows: &[u64]) {
     for (a, x) in rows.iter().enumerate() {
-        for b in 0..64 {
-            if sets::has(*x, b) {
-                say_arrow(page, kind, a, b);
-            }
+        for b in sets::members(*x) {
+            say_arrow(page, kind, a, b);
         }
     }
 }
