@@ -1,102 +1,79 @@
 // The numbers among the operands.
-use crate::wrong::place;
-use commands::Numbers;
-use files::arguments::{Call, Number, PATH_MAX, argument};
-use files::complaints::complain_of;
+use commands::shapes::Numbers;
+use files::arguments::{Call, PATH_MAX, argument, number_of};
+use files::complaints::{Complained, complain_of};
 use lines::states::Stated;
 
-// What the numbers of a call say; or one that should be a number is none, and was complained of.
+// What the numbers of a call say.
 #[derive(Clone, Copy)]
 pub enum Stating {
-    Nothing,
     Count(u64),
     Entry(Stated),
     Person(u64),
     Markings(u64),
-    Wrong,
 }
 
-// The number that operand k is; where it is none, what it should be was complained of.
-fn number_at(rt: &HostRuntime, call: Call, k: usize, what: &[u8]) -> Number {
-    let mut word = [0u8; PATH_MAX];
-    let n = argument(rt, place(call, k), &mut word);
-    let o = files::arguments::number_of(&word[..n]);
-    if let Number::None = o {
-        complain_of(rt, &word[..n], what);
+// The number that operand k is, if it is not left out.
+fn number_in(
+    rt: &HostRuntime,
+    call: &Call,
+    k: usize,
+    what: &str,
+) -> Result<Option<u64>, Complained> {
+    let Some(i) = call.operand(k) else {
+        return Ok(None);
+    };
+    let mut room = [0u8; PATH_MAX];
+    let word = argument(rt, i, &mut room);
+    match number_of(word) {
+        Some(number) => Ok(Some(number)),
+        None => Err(complain_of(rt, word, what)),
     }
-    o
 }
 
-fn part_at(rt: &HostRuntime, call: Call, k: usize) -> Number {
-    number_at(
+fn part_in(rt: &HostRuntime, call: &Call, k: usize) -> Result<Option<u64>, Complained> {
+    number_in(
         rt,
         call,
         k,
-        b"a person, step or role is a number, digits 0 to 9 alone",
+        "a person, step or role is a number, digits 0 to 9 alone",
     )
 }
 
-// It stands before the files.
-fn count_in(rt: &HostRuntime, call: Call, what: &[u8]) -> Stating {
-    let n = number_at(rt, call, 0, what);
-    match n {
-        Number::Is(count) => Stating::Count(count),
-        Number::None => Stating::Wrong,
-    }
-}
-
 // Its parts stand behind the sheet and the journal.
-fn entry_in(rt: &HostRuntime, call: Call) -> Stating {
-    let a = part_at(rt, call, 2);
-    let Number::Is(person) = a else {
-        return Stating::Wrong;
-    };
-    let b = part_at(rt, call, 3);
-    let Number::Is(step) = b else {
-        return Stating::Wrong;
-    };
-    let c = part_at(rt, call, 4);
-    let Number::Is(role) = c else {
-        return Stating::Wrong;
-    };
-    Stating::Entry(Stated {
-        person: person,
-        step: step,
-        role: role,
-    })
-}
-
-// A person may be left out.
-fn person_in(rt: &HostRuntime, call: Call) -> Stating {
-    if place(call, 2) == 0 {
-        return Stating::Nothing;
-    }
-    let n = part_at(rt, call, 2);
-    match n {
-        Number::Is(person) => Stating::Person(person),
-        Number::None => Stating::Wrong,
+fn entry_in(rt: &HostRuntime, call: &Call) -> Result<Option<Stated>, Complained> {
+    let person = part_in(rt, call, 2)?;
+    let step = part_in(rt, call, 3)?;
+    let role = part_in(rt, call, 4)?;
+    match (person, step, role) {
+        (Some(person), Some(step), Some(role)) => Ok(Some(Stated { person, step, role })),
+        _ => Ok(None),
     }
 }
 
-// The size of a store may be left out.
-fn markings_in(rt: &HostRuntime, call: Call) -> Stating {
-    if place(call, 2) == 0 {
-        return Stating::Nothing;
-    }
-    let n = number_at(rt, call, 2, b"MARKINGS is a number, digits 0 to 9 alone");
-    match n {
-        Number::Is(markings) => Stating::Markings(markings),
-        Number::None => Stating::Wrong,
-    }
-}
-
-pub fn stated_in(rt: &HostRuntime, n: Numbers, call: Call) -> Stating {
-    match n {
-        Numbers::None => Stating::Nothing,
-        Numbers::Count => count_in(rt, call, b"N is a number, digits 0 to 9 alone"),
-        Numbers::Arms => count_in(rt, call, b"ARMS is a number, digits 0 to 9 alone"),
-        Numbers::Entry => entry_in(rt, call),
-        Numbers::Person => person_in(rt, call),
-        Numbers::Markings => markings_in(rt, call),
-    }
+// A number that stands before the files is the first operand, one that stands behind them the third.
+pub fn stated_in(
+    rt: &HostRuntime,
+    numbers: Option<Numbers>,
+    call: &Call,
+) -> Result<Option<Stating>, Complained> {
+    let Some(numbers) = numbers else {
+        return Ok(None);
+    };
+    let stated = match numbers {
+        Numbers::Count => {
+            number_in(rt, call, 0, "N is a number, digits 0 to 9 alone")?.map(Stating::Count)
+        }
+        Numbers::Arms => {
+            number_in(rt, call, 0, "ARMS is a number, digits 0 to 9 alone")?.map(Stating::Count)
+        }
+        Numbers::Entry => entry_in(rt, call)?.map(Stating::Entry),
+        Numbers::Person => part_in(rt, call, 2)?.map(Stating::Person),
+        Numbers::Markings => {
+            number_in(rt, call, 2, "MARKINGS is a number, digits 0 to 9 alone")?.map(
+                Stating::Markings,
+            )
+        }
+    };
+    Ok(stated)
 }

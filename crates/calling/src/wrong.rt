@@ -1,200 +1,133 @@
 // Wrong use, each with its one line.
+use commands::Command;
 use commands::nearest::nearest;
-use commands::{Command, Numbers, Shape};
+use commands::shapes::{Numbers, Shape};
 use files::arguments::{Call, PATH_MAX, argument};
-use files::complaints::{complain, complain_of};
-use guide::usage::{say_command_word, say_use};
+use files::complaints::{Complained, complain, complain_of};
+use guide::usage::Use;
 use lines::names::say_name;
-use lines::say::say;
-use output::page::complain_with;
-
-// The place of operand k behind the command, or 0.
-pub fn place(c: Call, k: usize) -> usize {
-    if 4 < k {
-        return 0;
-    }
-    if c.count <= k + 1 {
-        return 0;
-    }
-    let at = c.at;
-    at[k + 1]
-}
+use output::page::Page;
 
 // Is there a place for a file to write? Numbers may stand there instead.
 fn has_out(s: Shape) -> bool {
-    let n = s.numbers;
-    match n {
-        Numbers::Entry => false,
-        Numbers::Person => false,
-        Numbers::Markings => false,
-        _ => true,
+    !matches!(
+        s.numbers,
+        Some(Numbers::Entry | Numbers::Person | Numbers::Markings)
+    )
+}
+
+// The file to write, if one is named.
+pub fn out_of(s: Shape, call: &Call) -> Option<usize> {
+    if has_out(s) {
+        call.operand(s.out)
+    } else {
+        None
     }
 }
 
-// The place of the file to write, or 0.
-pub fn out_of(s: Shape, c: Call) -> usize {
-    if !has_out(s) {
-        return 0;
-    }
-    place(c, s.out)
-}
-
-// How many stand behind the command.
-fn operands(c: Call) -> usize {
-    if c.count == 0 {
-        return 0;
-    }
-    c.count - 1
-}
-
-fn is_dash(rt: &HostRuntime, i: usize) -> bool {
-    if i == 0 {
+fn is_dash(rt: &HostRuntime, at: Option<usize>) -> bool {
+    let Some(i) = at else {
         return false;
-    }
-    let mut name = [0u8; PATH_MAX];
-    let n = argument(rt, i, &mut name);
-    matches!(&name[..n], b"-")
+    };
+    let mut room = [0u8; PATH_MAX];
+    matches!(argument(rt, i, &mut room), b"-")
 }
 
-pub fn complain_none(rt: &HostRuntime) {
-    complain(rt, b"ulz: no command; 'ulz help' lists them\n");
+pub fn complain_none(rt: &HostRuntime) -> Complained {
+    complain(rt, "ulz: no command; 'ulz help' lists them\n")
 }
 
 // A page is put together first, so that the complaint is one write.
-pub fn complain_unknown(rt: &HostRuntime, word: &[u8]) {
-    let mut page = output::page::blank(*rt);
-    say(&mut page, b"ulz: ");
+pub fn complain_unknown(rt: &HostRuntime, word: &[u8]) -> Complained {
+    let mut page = Page::blank(*rt);
+    write!(page, "ulz: ");
     say_name(&mut page, word);
-    say(&mut page, b": unknown command; did you mean '");
-    say_command_word(&mut page, nearest(word));
-    say(&mut page, b"'? 'ulz help' lists them\n");
-    complain_with(&mut page);
+    let near = nearest(word);
+    writeln!(
+        page,
+        ": unknown command; did you mean '{near}'? 'ulz help' lists them"
+    );
+    page.complain();
+    Complained
 }
 
 // What is wrong with the file that argument i names.
-pub fn complain_at(rt: &HostRuntime, i: usize, what: &[u8]) {
-    let mut name = [0u8; PATH_MAX];
-    let n = argument(rt, i, &mut name);
-    complain_of(rt, &name[..n], what);
+pub fn complain_at(rt: &HostRuntime, i: usize, what: &str) -> Complained {
+    let mut room = [0u8; PATH_MAX];
+    complain_of(rt, argument(rt, i, &mut room), what)
 }
 
-fn complain_option(rt: &HostRuntime, i: usize) {
-    let mut word = [0u8; PATH_MAX];
-    let n = argument(rt, i, &mut word);
-    complain_of(rt, &word[..n], b"unknown option");
-}
-
-fn complain_use(rt: &HostRuntime, c: Command) {
-    let mut page = output::page::blank(*rt);
-    say(&mut page, b"ulz: usage: ");
-    say_use(&mut page, c);
-    say(&mut page, b"\n");
-    complain_with(&mut page);
+fn complain_use(rt: &HostRuntime, c: Command) -> Complained {
+    let mut page = Page::blank(*rt);
+    writeln!(page, "ulz: usage: {}", Use(c));
+    page.complain();
+    Complained
 }
 
 // The option is known, but is none of this command's.
-fn complain_untaken(rt: &HostRuntime, c: Command, option: &[u8]) {
-    let mut page = output::page::blank(*rt);
-    say(&mut page, b"ulz: ");
-    say(&mut page, option);
-    say(&mut page, b": 'ulz ");
-    say_command_word(&mut page, c);
-    say(&mut page, b"' takes no such option\n");
-    complain_with(&mut page);
+fn complain_untaken(rt: &HostRuntime, c: Command, option: &str) -> Complained {
+    let mut page = Page::blank(*rt);
+    writeln!(page, "ulz: {option}: 'ulz {c}' takes no such option");
+    page.complain();
+    Complained
 }
 
 // Does the command write a file? Help has a command in that place.
 fn writes(c: Command, s: Shape) -> bool {
-    if let Command::Help = c {
-        return false;
-    }
-    has_out(s) & (s.out < s.most)
+    c != Command::Help && has_out(s) && s.out < s.most
 }
 
-fn has_untaken(rt: &HostRuntime, c: Command, s: Shape, call: Call) -> bool {
-    if call.force & !writes(c, s) {
-        complain_untaken(rt, c, b"--force");
-        return true;
+fn test_options(rt: &HostRuntime, c: Command, s: Shape, call: &Call) -> Result<(), Complained> {
+    let options = [
+        ("--force", call.force && !writes(c, s)),
+        ("--never", call.never && !s.never),
+        ("--status", call.status && !s.status),
+        ("--from", call.from.is_some() && !s.from),
+    ];
+    for (option, is_untaken) in options {
+        if is_untaken {
+            return Err(complain_untaken(rt, c, option));
+        }
     }
-    if call.never & !s.never {
-        complain_untaken(rt, c, b"--never");
-        return true;
-    }
-    if call.status & !s.status {
-        complain_untaken(rt, c, b"--status");
-        return true;
-    }
-    if (call.from != 0) & !s.from {
-        complain_untaken(rt, c, b"--from");
-        return true;
-    }
-    false
+    Ok(())
 }
 
 // Is no file written, though --force says that it may be written over? A sample has files without naming a folder.
-fn forces_nothing(c: Command, s: Shape, call: Call) -> bool {
-    if !call.force {
-        return false;
-    }
-    if let Command::Sample = c {
-        return false;
-    }
-    operands(call) <= s.out
+fn forces_nothing(c: Command, s: Shape, call: &Call) -> bool {
+    call.force && c != Command::Sample && call.operands() <= s.out
 }
 
-// Is a word of the call wrong whatever the command? Then it was complained of.
-pub fn is_wrong_word(rt: &HostRuntime, call: Call) -> bool {
-    if 0 < call.long {
-        complain(rt, b"ulz: an argument is longer than 4,095 bytes\n");
-        return true;
+// Is no word of the call wrong, whatever the command?
+pub fn test_words(rt: &HostRuntime, call: &Call) -> Result<(), Complained> {
+    if call.long.is_some() {
+        return Err(complain(rt, "ulz: an argument is longer than 4,095 bytes\n"));
     }
-    if 0 < call.option {
-        complain_option(rt, call.option);
-        return true;
+    if let Some(i) = call.unknown {
+        return Err(complain_at(rt, i, "unknown option"));
     }
-    if 0 < call.lacking {
-        complain(rt, b"ulz: --from: a marking is missing\n");
-        return true;
+    if call.lacking.is_some() {
+        return Err(complain(rt, "ulz: --from: a marking is missing\n"));
     }
     if call.dashes {
-        complain(rt, b"ulz: '-' is standard input and may stand only once\n");
-        return true;
+        return Err(complain(rt, "ulz: '-' is standard input and may stand only once\n"));
     }
-    false
+    Ok(())
 }
 
-// Is an entry to be put behind standard input? Then it was complained of.
-fn takes_from_nowhere(rt: &HostRuntime, c: Command, call: Call) -> bool {
-    let Command::Take = c else {
-        return false;
-    };
-    if is_dash(rt, place(call, 1)) {
-        complain_of(rt, b"-", b"the journal is a file, and has to be named");
-        return true;
-    }
-    false
-}
-
-// Is the call no use of the command? Then it was complained of.
-pub fn is_wrong(rt: &HostRuntime, c: Command, s: Shape, call: Call) -> bool {
-    if has_untaken(rt, c, s, call) {
-        return true;
-    }
-    if operands(call) < s.least {
-        complain_use(rt, c);
-        return true;
-    }
-    if s.most < operands(call) {
-        complain_use(rt, c);
-        return true;
+// Is the call a use of the command, whose operands have that shape?
+pub fn test_use(rt: &HostRuntime, c: Command, s: Shape, call: &Call) -> Result<(), Complained> {
+    test_options(rt, c, s, call)?;
+    if !(s.least..=s.most).contains(&call.operands()) {
+        return Err(complain_use(rt, c));
     }
     if forces_nothing(c, s, call) {
-        complain(rt, b"ulz: --force: this call writes no file\n");
-        return true;
+        return Err(complain(rt, "ulz: --force: this call writes no file\n"));
     }
     if is_dash(rt, out_of(s, call)) {
-        complain_of(rt, b"-", b"the output is a file, and has to be named");
-        return true;
+        return Err(complain_of(rt, b"-", "the output is a file, and has to be named"));
     }
-    takes_from_nowhere(rt, c, call)
+    if c == Command::Take && is_dash(rt, call.operand(1)) {
+        return Err(complain_of(rt, b"-", "the journal is a file, and has to be named"));
+    }
+    Ok(())
 }

@@ -1,10 +1,17 @@
 // The commands, what each takes, and which one a word means.
 #![tactic(auto)]
 
-pub mod nearest;
-pub mod words;
+ghost use Rattle.std.specs.Prelude.{◌≡◌, ◌≢◌, IfSome, IsNone};
+ghost use Rattle.commands.specs.declared.Command.{Command as Named};
+ghost use Rattle.commands.specs.Words.{word_of};
 
-#[derive(Clone, Copy)]
+pub mod nearest;
+pub mod shapes;
+
+use std::fmt;
+use std::fmt::Display;
+
+#[derive(Clone, Copy, Debug, PartialEq, Eq)]
 pub enum Command {
     Check,
     Show,
@@ -27,30 +34,79 @@ pub enum Command {
     Track,
     Sample,
     Help,
-    Unknown,
 }
 
-// The numbers among the operands: none; N or the arms of a mast before the files; or an entry, a person or the size of a store behind
-// them, where else the file to write stands.
-#[derive(Clone, Copy)]
-pub enum Numbers {
-    None,
-    Count,
-    Arms,
-    Entry,
-    Person,
-    Markings,
+impl Command {
+    pub const ALL: [Command; 21] = [
+        Command::Check,
+        Command::Show,
+        Command::Write,
+        Command::Cabinet,
+        Command::May,
+        Command::Ask,
+        Command::Take,
+        Command::Run,
+        Command::Finished,
+        Command::Ends,
+        Command::Fold,
+        Command::Join,
+        Command::Apply,
+        Command::Restore,
+        Command::Record,
+        Command::Marking,
+        Command::Entries,
+        Command::Lap,
+        Command::Track,
+        Command::Sample,
+        Command::Help,
+    ];
+
+    pub fn word(self) -> &'static str
+        ensures { result.now ≡ word_of self }
+    {
+        match self {
+            Command::Check => "check",
+            Command::Show => "show",
+            Command::Write => "write",
+            Command::Cabinet => "cabinet",
+            Command::May => "may",
+            Command::Ask => "ask",
+            Command::Take => "take",
+            Command::Run => "run",
+            Command::Finished => "finished",
+            Command::Ends => "ends",
+            Command::Fold => "fold",
+            Command::Join => "join",
+            Command::Apply => "apply",
+            Command::Restore => "restore",
+            Command::Record => "record",
+            Command::Marking => "marking",
+            Command::Entries => "entries",
+            Command::Lap => "lap",
+            Command::Track => "track",
+            Command::Sample => "sample",
+            Command::Help => "help",
+        }
+    }
+
+    // The command of that word. A word is bytes, as somebody typed it.
+    pub fn named(word: &[u8]) -> Option<Command>
+        ensures found { IfSome result (λ c. word_of c ≡ word.now) }
+        ensures none { IsNone result → (c : Named) → word_of c ≢ word.now }
+    {
+        Command::ALL
+            .iter()
+            .copied()
+            .find(|c| c.word().as_bytes() == word)
+    }
 }
 
-// The operands of a command: the numbers among them, how many stand before the file to write, and how few and how many there may be.
-// Then the options that not every command takes.
-#[derive(Clone, Copy)]
-pub struct Shape {
-    pub numbers: Numbers,
-    pub out: usize,
-    pub least: usize,
-    pub most: usize,
-    pub from: bool,
-    pub status: bool,
-    pub never: bool,
+impl Display for Command {
+    ghost use Rattle.std.specs.Prelude.{Some};
+
+    ghost output = { λ c. Some (word_of c) };
+
+    fn fmt<W: fmt::Write>(&self, f: &mut fmt::Formatter<W>) -> fmt::Result {
+        f.write_str(self.word())
+    }
 }

@@ -1,30 +1,33 @@
 // What the program was called with.
-ghost use Rattle.std.specs.Prelude.{◌≤◌, length};
+ghost use Rattle.std.specs.Prelude.{◌≡◌, ◌+◌, ◌-◌, ◌≤◌, drop, length, slice_get};
 
+use arrayvec::ArrayVec;
 use std::env::{Env, FillError};
 
 // The most bytes of a path, with the 0 that ends it.
 pub const PATH_MAX: usize = 4096;
 
-// The places of the first six operands, the command before its own, and the number of operands, where seven stands for more; which
-// options were given; the place of the value of --from, or 0; is `-` among what names a file, once or more often. Then what is wrong:
-// the place of the first option that is none, of an option whose value is missing, and of the first argument that is too long, or 0.
-#[derive(Clone, Copy)]
+// As many operands are kept: no command takes so many, so that they stand for any more too.
+const OPERANDS_MAX: usize = 7;
+
+// An argument is named by its place. The operands, the command before its own; which options were given; the value of --from; does `-`
+// stand more than once among what names a file? Then what is wrong: the first option that is none, an option whose value is missing, and
+// the first argument that is too long.
+#[derive(Default, Drop)]
 pub struct Call {
-    pub at: [usize; 6],
-    pub count: usize,
+    operands: ArrayVec<usize, OPERANDS_MAX>,
     pub force: bool,
     pub never: bool,
     pub status: bool,
     pub help: bool,
     pub version: bool,
-    pub from: usize,
-    pub dash: bool,
+    pub from: Option<usize>,
+    dash: bool,
     pub dashes: bool,
-    pub ended: bool,
-    pub option: usize,
-    pub lacking: usize,
-    pub long: usize,
+    ended: bool,
+    pub unknown: Option<usize>,
+    pub lacking: Option<usize>,
+    pub long: Option<usize>,
 }
 
 // What a word asks that begins with `-`. End is `--`: no word behind it is an option.
@@ -37,226 +40,140 @@ enum Flag {
     Version,
     From,
     End,
-    Unknown,
 }
 
-// Is the argument whole that was read so? One that is longer than a path is not taken.
-pub fn is_whole(read: Result<usize, FillError>) -> bool {
-    match read {
-        Ok(length) => length < PATH_MAX,
-        Err(_) => false,
-    }
-}
-
-// Puts argument i at the start of the room and answers its length, or 0 where it is missing or does not fit.
-pub fn argument(rt: &HostRuntime, i: usize, room: &mut [u8]) -> usize
-    ensures { result ≤ length room.new }
+// The argument, which is put at the start of the room; the empty text where it is missing or does not fit.
+pub fn argument<'a>(rt: &HostRuntime, i: usize, room: &'a mut [u8]) -> &'a [u8]
+    ensures { length result.now ≤ length room.old }
 {
-    match rt.arg(i, room) {
-        Ok(length) => length,
-        Err(_) => 0,
-    }
-}
-
-fn first_of(earlier: usize, i: usize) -> usize {
-    if earlier == 0 {
-        return i;
-    }
-    earlier
-}
-
-fn with_dash(mut c: Call, dash: bool) -> Call {
-    c.dashes = c.dashes | (c.dash & dash);
-    c.dash = c.dash | dash;
-    c
-}
-
-fn with_operand(mut c: Call, i: usize) -> Call {
-    let n = c.count;
-    if n < 6 {
-        c.at[n] = i;
-    }
-    if n < 7 {
-        c.count = n + 1;
-    }
-    c
-}
-
-fn with_value(mut c: Call, i: usize) -> Call {
-    c.from = i;
-    c.lacking = 0;
-    c
-}
-
-// --from begins a value, which is the next word whatever it is; a call begins at one place only.
-fn with_from(mut c: Call, i: usize) -> Call {
-    if c.from != 0 {
-        c.option = first_of(c.option, i);
-        return c;
-    }
-    c.lacking = i;
-    c
-}
-
-fn with_flag(mut c: Call, i: usize, flag: Flag) -> Call {
-    match flag {
-        Flag::Force => {
-            c.force = true;
-        }
-        Flag::Never => {
-            c.never = true;
-        }
-        Flag::Status => {
-            c.status = true;
-        }
-        Flag::Help => {
-            c.help = true;
-        }
-        Flag::Version => {
-            c.version = true;
-        }
-        Flag::From => {
-            return with_from(c, i);
-        }
-        Flag::End => {
-            c.ended = true;
-        }
-        Flag::Unknown => {
-            c.option = first_of(c.option, i);
-        }
-    }
-    c
+    let length = rt.arg(i, room).unwrap_or(0);
+    &room[..length]
 }
 
 fn is_option(word: &[u8]) -> bool {
-    if word.len() < 2 {
-        return false;
-    }
-    word[0] == b'-'
+    matches!(word, [b'-', _, ..])
 }
 
-fn flag_of(word: &[u8]) -> Flag {
+fn flag_of(word: &[u8]) -> Option<Flag> {
     match word {
-        b"--force" => Flag::Force,
-        b"--never" => Flag::Never,
-        b"--status" => Flag::Status,
-        b"--from" => Flag::From,
-        b"-h" | b"--help" => Flag::Help,
-        b"--version" => Flag::Version,
-        b"--" => Flag::End,
-        _ => Flag::Unknown,
+        b"--force" => Some(Flag::Force),
+        b"--never" => Some(Flag::Never),
+        b"--status" => Some(Flag::Status),
+        b"--from" => Some(Flag::From),
+        b"-h" | b"--help" => Some(Flag::Help),
+        b"--version" => Some(Flag::Version),
+        b"--" => Some(Flag::End),
+        _ => None,
     }
 }
 
-fn with_word(c: Call, i: usize, word: &[u8]) -> Call {
-    let dash = matches!(word, b"-");
-    if c.lacking != 0 {
-        return with_value(with_dash(c, dash), i);
+impl Call {
+    // The command, which is the first operand.
+    pub fn command(&self) -> Option<usize>
+        ensures { result ≡ slice_get self.now.operands.items 0 }
+    {
+        self.operands.first().copied()
     }
-    if c.ended {
-        return with_operand(with_dash(c, dash), i);
-    }
-    if is_option(word) {
-        return with_flag(c, i, flag_of(word));
-    }
-    with_operand(with_dash(c, dash), i)
-}
 
-fn with_argument(rt: &HostRuntime, mut c: Call, i: usize) -> Call {
-    let mut word = [0u8; PATH_MAX];
-    let read = rt.arg(i, &mut word);
-    if !is_whole(read) {
-        c.long = first_of(c.long, i);
-        return c;
+    // The operands behind the command.
+    fn behind(&self) -> &[usize]
+        ensures { result.now ≡ drop 1 self.now.operands.items }
+    {
+        match self.operands.as_slice() {
+            [_, behind @ ..] => behind,
+            [] => &[],
+        }
     }
-    let n = argument(rt, i, &mut word);
-    with_word(c, i, &word[..n])
-}
 
-// Was the program called with that many words?
-fn has_argument(rt: &HostRuntime, i: usize) -> bool {
-    !matches!(rt.arg(i, &mut [0u8; 1]), Err(FillError::NotPresent))
+    // Operand k behind the command.
+    pub fn operand(&self, k: usize) -> Option<usize>
+        ensures { result ≡ slice_get self.now.operands.items (k + 1) }
+    {
+        self.behind().get(k).copied()
+    }
+
+    // How many operands stand behind the command.
+    pub fn operands(&self) -> usize
+        ensures { result ≡ length self.now.operands.items - 1 }
+    {
+        self.behind().len()
+    }
+
+    fn note_dash(&mut self, word: &[u8]) {
+        let dash = matches!(word, b"-");
+        self.dashes |= self.dash & dash;
+        self.dash |= dash;
+    }
+
+    fn note_unknown(&mut self, i: usize) {
+        self.unknown = self.unknown.or(Some(i));
+    }
+
+    // --from begins a value, which is the next word whatever it is; a call begins at one place only.
+    fn begin_from(&mut self, i: usize) {
+        if self.from.is_some() {
+            self.note_unknown(i);
+        } else {
+            self.lacking = Some(i);
+        }
+    }
+
+    fn set(&mut self, i: usize, flag: Flag) {
+        match flag {
+            Flag::Force => self.force = true,
+            Flag::Never => self.never = true,
+            Flag::Status => self.status = true,
+            Flag::Help => self.help = true,
+            Flag::Version => self.version = true,
+            Flag::From => self.begin_from(i),
+            Flag::End => self.ended = true,
+        }
+    }
+
+    // Takes argument i, which is the word.
+    fn take(&mut self, i: usize, word: &[u8]) {
+        if self.lacking.is_some() {
+            self.note_dash(word);
+            self.from = Some(i);
+            self.lacking = None;
+            return;
+        }
+        if !self.ended && is_option(word) {
+            match flag_of(word) {
+                Some(flag) => self.set(i, flag),
+                None => self.note_unknown(i),
+            }
+            return;
+        }
+        self.note_dash(word);
+        let _ = self.operands.try_push(i);
+    }
 }
 
 pub fn called(rt: &HostRuntime) -> Call {
-    let mut c = Call {
-        at: [0; 6],
-        count: 0,
-        force: false,
-        never: false,
-        status: false,
-        help: false,
-        version: false,
-        from: 0,
-        dash: false,
-        dashes: false,
-        ended: false,
-        option: 0,
-        lacking: 0,
-        long: 0,
-    };
+    let mut call = Call::default();
     for i in 1..usize::MAX {
-        if !has_argument(rt, i) {
-            break;
-        }
-        c = with_argument(rt, c, i);
-    }
-    c
-}
-
-// A number, or none.
-#[derive(Clone, Copy)]
-pub enum Number {
-    Is(u64),
-    None,
-}
-
-fn is_digit(b: u8) -> bool {
-    (b'0' <= b) & (b <= b'9')
-}
-
-fn all_digits(word: &[u8]) -> bool {
-    for b in word {
-        if !is_digit(*b) {
-            return false;
+        let mut word = [0u8; PATH_MAX];
+        match rt.arg(i, &mut word) {
+            Err(FillError::NotPresent) => break,
+            Ok(length) if length < PATH_MAX => call.take(i, &word[..length]),
+            _ => call.long = call.long.or(Some(i)),
         }
     }
-    true
+    call
 }
 
-// What does not fit a word is the largest that does.
-const MOST: u64 = 18446744073709551615;
+// The number that the word is, if it is one. What does not fit is the largest that does.
+pub fn number_of(word: &[u8]) -> Option<u64> {
+    if word.is_empty() || !word.iter().all(|b| b.is_ascii_digit()) {
+        return None;
+    }
+    Some(word.iter().fold(0, |number, b| with_digit(number, *b)))
+}
 
 // One digit more.
-fn with_digit(v: u64, b: u8) -> u64 {
-    if b < b'0' {
-        return v;
-    }
-    if 1844674407370955161 < v {
-        return MOST;
-    }
-    let ten = 10 * v;
-    let digit = (b - b'0') as u64;
-    if MOST - ten < digit {
-        return MOST;
-    }
-    ten + digit
-}
-
-fn value(word: &[u8]) -> u64 {
-    let mut v = 0;
-    for b in word {
-        v = with_digit(v, *b);
-    }
-    v
-}
-
-pub fn number_of(word: &[u8]) -> Number {
-    if word.len() == 0 {
-        return Number::None;
-    }
-    if !all_digits(word) {
-        return Number::None;
-    }
-    Number::Is(value(word))
+fn with_digit(number: u64, b: u8) -> u64 {
+    number
+        .saturating_mul(10)
+        .saturating_add(u64::from(b.saturating_sub(b'0')))
 }

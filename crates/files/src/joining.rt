@@ -1,35 +1,34 @@
-// Texts put behind one another.
+// A line put together from texts, so that it is written at once.
+use arrayvec::ArrayVec;
+use std::io::Write;
 
 // Room for a path and a sentence.
-pub const ROOM: usize = 4608;
+const ROOM: usize = 4608;
 
-pub type Line = [u8; 4608];
+// What does not fit any more is left away.
+#[derive(Default, Drop)]
+pub struct Line {
+    text: ArrayVec<u8, ROOM>,
+}
 
 // A name may hold an end of line, and a complaint has one line.
-fn shown(b: u8, named: bool) -> u8 {
-    if named & (b < 32) {
-        return b'?';
-    }
-    b
+fn shown(b: u8) -> u8 {
+    if b < 32 { b'?' } else { b }
 }
 
-fn join_as(line: &mut Line, at: usize, text: &[u8], named: bool) -> usize {
-    let mut n = at;
-    for b in text {
-        if n < ROOM {
-            line[n] = shown(*b, named);
-            n += 1;
+impl Line {
+    pub fn join(&mut self, text: &str) {
+        let _ = self.text.write(text.as_bytes());
+    }
+
+    // A name is bytes, as somebody typed it.
+    pub fn join_name(&mut self, name: &[u8]) {
+        for b in name {
+            let _ = self.text.try_push(shown(*b));
         }
     }
-    n
-}
 
-// Puts the text behind the first `at` bytes, as far as there is room, and answers how many bytes there are then.
-pub fn join(line: &mut Line, at: usize, text: &[u8]) -> usize {
-    join_as(line, at, text, false)
-}
-
-// The same of a name in a complaint.
-pub fn join_name(line: &mut Line, at: usize, name: &[u8]) -> usize {
-    join_as(line, at, name, true)
+    pub fn as_slice(&self) -> &[u8] {
+        self.text.as_slice()
+    }
 }

@@ -1,22 +1,15 @@
 // Files read whole.
-ghost use Rattle.std.specs.Prelude.{[]};
+ghost use Rattle.std.specs.Prelude.{IfOk, length};
 ghost use Rattle.files.specs.Counts.{IsPrefixLen};
 ghost use Rattle.std.specs.Io.{ReadsAtMost};
 
 use crate::arguments::{PATH_MAX, argument};
-use crate::complaints::{complain_error, complain_reason};
-use crate::known::ended;
+use crate::complaints::{Complained, complain_error};
+use crate::known::path_of;
 use crate::reasons::EINTR;
 use std::fs::File;
 use std::io;
 use std::io::{Error, ErrorKind, Read};
-
-// How many bytes stand at the start of the room; or the reading failed, and was complained of.
-#[derive(Clone, Copy)]
-pub struct Got {
-    pub length: usize,
-    pub failed: bool,
-}
 
 // How often a read that a signal broke off is begun again.
 const AGAIN: usize = 100;
@@ -49,60 +42,37 @@ fn read_all(from: &mut impl Read, room: &mut [u8]) -> io::Result<usize>
     Ok(done)
 }
 
-fn read_named(rt: &HostRuntime, from: &mut impl Read, name: &[u8], room: &mut [u8]) -> Got
-    ensures { IsPrefixLen result.length room.new }
+fn read_file(rt: &HostRuntime, name: &[u8], room: &mut [u8]) -> io::Result<usize>
+    ensures { ReadsAtMost result room.new }
 {
-    match read_all(from, room) {
-        Ok(length) => Got {
-            length: length,
-            failed: false,
-        },
-        Err(e) => {
-            complain_error(rt, name, &e);
-            nothing(true)
-        }
-    }
+    read_all(&mut File::open(rt, path_of(name)?)?, room)
 }
 
-fn nothing(failed: bool) -> Got
-    ensures { IsPrefixLen result.length [] }
+// What was read stands at the start of the room.
+fn read_named<'a>(rt: &HostRuntime, name: &[u8], room: &'a mut [u8]) -> Result<&'a [u8], Complained>
+    ensures { IfOk result (λ bytes. IsPrefixLen (length bytes.now) room.old) }
 {
-    Got {
-        length: 0,
-        failed: failed,
-    }
-}
-
-fn fetch_named(rt: &HostRuntime, name: &[u8], room: &mut [u8]) -> Got
-    ensures { IsPrefixLen result.length room.new }
-{
-    let path = match ended(name) {
-        Ok(path) => path,
-        Err(error) => {
-            complain_reason(rt, name, error);
-            return nothing(true);
-        }
+    let read = match name {
+        b"-" => read_all(&mut rt.stdin(), room),
+        path => read_file(rt, path, room),
     };
-    match File::open(rt, path) {
-        Ok(mut file) => read_named(rt, &mut file, name, room),
-        Err(e) => {
-            complain_error(rt, name, &e);
-            nothing(true)
-        }
+    match read {
+        Ok(length) => Ok(&room[..length]),
+        Err(e) => Err(complain_error(rt, name, &e)),
     }
 }
 
-// The file that argument i names, or standard input. Argument 0 names the program, and stands for no file: nothing is read.
-pub fn fetch(rt: &HostRuntime, i: usize, room: &mut [u8]) -> Got
-    ensures { IsPrefixLen result.length room.new }
+// The file that the argument names, or standard input; nothing is read where there is no argument.
+pub fn fetch<'a>(
+    rt: &HostRuntime,
+    at: Option<usize>,
+    room: &'a mut [u8],
+) -> Result<&'a [u8], Complained>
+    ensures { IfOk result (λ bytes. IsPrefixLen (length bytes.now) room.old) }
 {
-    if i == 0 {
-        return nothing(false);
-    }
+    let Some(at) = at else {
+        return Ok(&room[..0]);
+    };
     let mut name = [0u8; PATH_MAX];
-    let n = argument(rt, i, &mut name);
-    match &name[..n] {
-        b"-" => read_named(rt, &mut rt.stdin(), b"-", room),
-        path => fetch_named(rt, path, room),
-    }
+    read_named(rt, argument(rt, at, &mut name), room)
 }

@@ -6,17 +6,6 @@ use Rattle.layout.specs.Layout.{start, size_at, follows}
 use Rattle.reading.specs.declared.Form.{Form}
 use Rattle.reading.specs.Reading.{form_of, layout_fits}
 use Rattle.reading.specs.Laws.{form_formed}
-use Rattle.flaws.specs.declared.layouts.Fault.{Fault}
-use Rattle.flaws.specs.declared.layouts.Fault.TheVariants.{Length, First, Named, Begins, Ends, Size, Nothing}
-
-abbrev pub is_nothing : Fault → Bool
-is_nothing (Length n) = false
-is_nothing (First n) = false
-is_nothing (Named line named) = false
-is_nothing (Begins body begins at) = false
-is_nothing (Ends body end bytes) = false
-is_nothing (Size body size wants) = false
-is_nothing Nothing = true
 
 -- body 1 has `counts` bytes, body 2 has 24, and those of body 5 are a multiple of 3
 abbrev pub sizes_fit : ℕ → List ℕ → Bool

@@ -4,4 +4,5 @@
 pub mod layouts;
 pub mod pointed;
 pub mod roles;
+pub mod said;
 pub mod sheets;

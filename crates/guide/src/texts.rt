@@ -1,276 +1,146 @@
 // What each command answers, in a phrase and in a few lines.
 use commands::Command;
-use lines::say::say;
-use output::page::Page;
 
-pub fn say_phrase(page: &mut Page, c: Command) {
+pub fn phrase_of(c: Command) -> &'static str {
     match c {
-        Command::Check => say(page, b"is the sheet in order?\n"),
-        Command::Show => say(page, b"what the sheet holds, in words\n"),
-        Command::Write => say(page, b"writes the sheet of what was read\n"),
-        Command::Cabinet => say(
-            page,
-            b"writes the sheet of the cabinet's own job, for a mast with ARMS arms\n",
-        ),
-        Command::May => say(page, b"who may take which step after the journal\n"),
-        Command::Ask => say(
-            page,
-            b"may the person take the step in the role after the journal?\n",
-        ),
-        Command::Take => say(
-            page,
-            b"the same, and an entry that is allowed is put behind the journal\n",
-        ),
-        Command::Run => say(
-            page,
-            b"where the journal ends, or its first entry that is not allowed\n",
-        ),
-        Command::Finished => say(page, b"is the job finished after the journal?\n"),
-        Command::Ends => say(
-            page,
-            b"can the job still end after the journal, and in how many entries?\n",
-        ),
-        Command::Fold => say(page, b"folds the journal into a record\n"),
-        Command::Join => say(
-            page,
-            b"the record of the first, then the second, for N steps\n",
-        ),
-        Command::Apply => say(page, b"what the record makes of the marking, for N steps\n"),
-        Command::Restore => say(page, b"goes on from a record with the rest of a journal\n"),
-        Command::Record => say(page, b"what the record needs and does\n"),
-        Command::Marking => say(page, b"the three sets of a marking\n"),
-        Command::Entries => say(page, b"the entries of a journal, in words\n"),
-        Command::Lap => say(page, b"is the stem, then the lap without end, accepted?\n"),
-        Command::Track => say(page, b"the tracker's rank and flag, entry by entry\n"),
-        Command::Sample => say(
-            page,
-            b"writes a small job's files, and walks through the accident\n",
-        ),
-        Command::Help => say(page, b"this list, or a command's own page\n"),
-        Command::Unknown => say(page, b"\n"),
+        Command::Check => "is the sheet in order?",
+        Command::Show => "what the sheet holds, in words",
+        Command::Write => "writes the sheet of what was read",
+        Command::Cabinet => "writes the sheet of the cabinet's own job, for a mast with ARMS arms",
+        Command::May => "who may take which step after the journal",
+        Command::Ask => "may the person take the step in the role after the journal?",
+        Command::Take => "the same, and an entry that is allowed is put behind the journal",
+        Command::Run => "where the journal ends, or its first entry that is not allowed",
+        Command::Finished => "is the job finished after the journal?",
+        Command::Ends => "can the job still end after the journal, and in how many entries?",
+        Command::Fold => "folds the journal into a record",
+        Command::Join => "the record of the first, then the second, for N steps",
+        Command::Apply => "what the record makes of the marking, for N steps",
+        Command::Restore => "goes on from a record with the rest of a journal",
+        Command::Record => "what the record needs and does",
+        Command::Marking => "the three sets of a marking",
+        Command::Entries => "the entries of a journal, in words",
+        Command::Lap => "is the stem, then the lap without end, accepted?",
+        Command::Track => "the tracker's rank and flag, entry by entry",
+        Command::Sample => "writes a small job's files, and walks through the accident",
+        Command::Help => "this list, or a command's own page",
     }
 }
 
-fn say_check_page(page: &mut Page) {
-    say(
-        page,
-        b"Prints 'sheet: ok' and the number of steps, people, roles, actions and arrows.\n\
-          Refusals: 1 to 6.\n",
-    );
-}
-
-fn say_show_page(page: &mut Page) {
-    say(
-        page,
-        b"Prints the roles of each person and each action, each step with its action, the roles of that and its place in the first\n\
-          marking, each arrow in words, and whether the job is finished there; if not, the steps to do, those both due and included.\n\
-          Refusals: 1 to 6.\n",
-    );
-}
-
-fn say_write_page(page: &mut Page) {
-    say(
-        page,
-        b"Reads the sheet, of six bodies or of five, and writes the graph and the first marking that it holds, in six: the same bytes,\n\
-          where it had six. In five bodies every step is its own action.\n\
-          Refusals: 1 to 6.\n",
-    );
-}
-
-fn say_cabinet_page(page: &mut Page) {
-    say(
-        page,
-        b"Step 0 reboots, step K checks arm K, of which arm 1 is the lowest, and step ARMS + 1 publishes. At the start, and again after\n\
-          each reboot, every check is due and only the lowest is included; a check makes way for the next one, the last for publishing.\n\
-          Person 0, role 0, is the climber and checks; person 1, role 1, sits at the desk and publishes; either of them may reboot.\n\
-          Refusals: 30 (ARMS is not 2 to 16).\n",
-    );
-}
-
-fn say_may_page(page: &mut Page) {
-    say(
-        page,
-        b"Runs the journal, then prints a line 'may' for each person and role that may take a step.\n\
-          A step that nobody may take is 'blocked', with the reason: not included, what it waits for, or nobody holds its roles.\n\
-          With PERSON, a number from 0, both lines are of that person alone; one who is not there is refused with 11.\n\
-          It starts at the sheet's first marking, or with --from at that of a file of 24 bytes.\n\
-          Refusals: 1 to 6, 7, 8, then 11 to 15 of the first entry not allowed.\n",
-    );
-}
-
-fn say_ask_page(page: &mut Page) {
-    say(
-        page,
-        b"Prints 'allowed: yes' and the entry, with its place behind those of the journal. Nothing is written.\n\
-          A refused entry is printed with what it waits for, if it does, and the marking before it.\n\
-          PERSON, STEP and ROLE are numbers from 0; one that is too large for an entry is refused with 11 as it is.\n\
-          It starts at the sheet's first marking, or with --from at that of a file of 24 bytes.\n\
-          Refusals: 1 to 6, 7 (a full journal too), 8, then 11 to 15 of the first entry not allowed, the one asked for last.\n",
-    );
-}
-
-fn say_take_page(page: &mut Page) {
-    say(
-        page,
-        b"Prints 'taken: yes', the entry, the marking after it and whether the job is then finished. The entry's three bytes stand behind\n\
-          the journal and on the device before that is printed. What is refused is what 'ask' refuses, and leaves the journal as it was.\n\
-          A journal that is not there is an empty one, and is made for its first entry. It is an ordinary file and no other input.\n\
-          Two takes of one journal go one after the other: the journal is locked, and its folder with it, until the program ends.\n\
-          PERSON, STEP, ROLE and --from are those of 'ask'.\n\
-          Refusals: 1 to 6, 7 (a full journal too), 8, then 11 to 15 of the first entry not allowed, the one to take last.\n",
-    );
-}
-
-fn say_run_page(page: &mut Page) {
-    say(
-        page,
-        b"Prints the number of entries, the marking at the end (done, due, included), and whether the job is finished.\n\
-          A refused entry is printed with what it waits for, if it does, and the marking before it.\n\
-          OUT gets the marking at the end, 24 bytes, and --from takes such a file to start at.\n\
-          Refusals: 1 to 6, 7, 8, then 11 to 15 of the first entry not allowed.\n",
-    );
-}
-
-fn say_finished_page(page: &mut Page) {
-    say(
-        page,
-        b"Prints 'finished: yes', or 'finished: no' and the steps to do, those both due and included.\n\
-          With --status the exit status is 0 for yes, 1 for no and 2 for anything else, a refusal among them.\n\
-          Refusals: 1 to 6, 7, then 11 to 15 of the first entry not allowed.\n",
-    );
-}
-
-fn say_ends_page(page: &mut Page) {
-    say(
-        page,
-        b"Runs the journal and prints where it ends, then 'can end: yes' and the fewest entries that lead from there to a finished job,\n\
-          or 'can end: no' where no entries do. 'looked at' is the number of markings that were looked at on the way.\n\
-          What is found is kept in a store for MARKINGS markings, 1 to 2048, and for 2048 where the number is left out. Where that is\n\
-          full too early to tell, the answer is 'can end: undecided'.\n\
-          It starts at the sheet's first marking, or with --from at that of a file of 24 bytes. With --status the exit status is\n\
-          0 for yes, 1 for no and 2 for anything else, undecided and a refusal among them.\n\
-          Refusals: 1 to 6, 7, 8, then 11 to 15 of the first entry not allowed, then 22 (MARKINGS is not 1 to 2048).\n",
-    );
-}
-
-fn say_fold_page(page: &mut Page) {
-    say(
-        page,
-        b"Prints the record and writes its 65 bytes to OUT. It acts as the journal does, at every marking.\n\
-          Where no marking allows the journal, it says because of which entry and writes nothing; with --never it writes the record\n\
-          that says so.\n\
-          Refusals: 1 to 6, 7.\n",
-    );
-}
-
-fn say_join_page(page: &mut Page) {
-    say(
-        page,
-        b"Prints the joined record and writes its 65 bytes to OUT.\n\
-          Refusals: 2 (N is not 1 to 64), 10 (a record is not well-formed for N steps).\n",
-    );
-}
-
-fn say_apply_page(page: &mut Page) {
-    say(
-        page,
-        b"MARKING has 24 bytes: done, due, included, 8 bytes each, lowest byte first. Prints the marking after; OUT gets it.\n\
-          Refusals: 2, 8, 10, and 16 where the record does not apply, with the marking as it was.\n",
-    );
-}
-
-fn say_restore_page(page: &mut Page) {
-    say(
-        page,
-        b"From the sheet's first marking: the record, then the entries. Prints what 'run' prints; entries count in the rest.\n\
-          Refusals: 1 to 6, 7, 10, 16 where the record does not apply, then 11 to 15 of the first entry not allowed.\n",
-    );
-}
-
-fn say_record_page(page: &mut Page) {
-    say(
-        page,
-        b"Prints the record, read for 64 steps: what it needs of a marking, and what it then does to it.\n\
-          Refusals: 10.\n",
-    );
-}
-
-fn say_marking_page(page: &mut Page) {
-    say(
-        page,
-        b"Prints which steps are done, due and included. A marking has 24 bytes; 'run' and 'apply' write one, --from takes one.\n",
-    );
-}
-
-fn say_entries_page(page: &mut Page) {
-    say(
-        page,
-        b"Prints the number of entries, then each with its person, step and role, whatever a sheet would say to it.\n\
-          Refusals: 7.\n",
-    );
-}
-
-fn say_lap_page(page: &mut Page) {
-    say(
-        page,
-        b"Prints 'accepted' where each step that becomes due is later done or seen excluded, else 'starved' and the lowest step\n\
-          that stays due and included and is never done.\n\
-          A refused entry is printed with its pass: 0 stem, 1 first lap, 2 second lap, 3 a later one.\n\
-          It starts at the sheet's first marking, or with --from at that of a file of 24 bytes. With --status the exit status is\n\
-          0 for accepted, 1 for starved and 2 for anything else, a refusal among them.\n\
-          Refusals: 1 to 6, 7, 8, 17 (the lap is empty), then 11 to 15.\n",
-    );
-}
-
-fn say_track_page(page: &mut Page) {
-    say(
-        page,
-        b"Prints the rank and the flag at the start and after each entry, then the marking. Ranks count from 1: step 0 has rank 1.\n\
-          A refused entry is printed with the rank, flag and marking before it.\n\
-          It starts at the sheet's first marking, or with --from at that of a file of 24 bytes.\n\
-          Refusals: 1 to 6, 7, 8, then 11 to 15 of the first entry not allowed.\n",
-    );
-}
-
-fn say_sample_page(page: &mut Page) {
-    say(
-        page,
-        b"FOLDER ('sample', where none is named) is made if it is missing. Its files: job.sheet, start.marking, reboot.journal,\n\
-          check.journal, publish.journal, day.journal (all three) and empty.journal.\n\
-          Then the accident, line by line: a reboot must not lead to a publication before the order check, also not from a record.\n",
-    );
-}
-
-fn say_help_page(page: &mut Page) {
-    say(
-        page,
-        b"'ulz help COMMAND' and 'ulz COMMAND --help' print its use, what its lines mean and the numbers that it can be refused by.\n",
-    );
-}
-
-pub fn say_more(page: &mut Page, c: Command) {
+pub fn page_of(c: Command) -> &'static str {
     match c {
-        Command::Check => say_check_page(page),
-        Command::Show => say_show_page(page),
-        Command::Write => say_write_page(page),
-        Command::Cabinet => say_cabinet_page(page),
-        Command::May => say_may_page(page),
-        Command::Ask => say_ask_page(page),
-        Command::Take => say_take_page(page),
-        Command::Run => say_run_page(page),
-        Command::Finished => say_finished_page(page),
-        Command::Ends => say_ends_page(page),
-        Command::Fold => say_fold_page(page),
-        Command::Join => say_join_page(page),
-        Command::Apply => say_apply_page(page),
-        Command::Restore => say_restore_page(page),
-        Command::Record => say_record_page(page),
-        Command::Marking => say_marking_page(page),
-        Command::Entries => say_entries_page(page),
-        Command::Lap => say_lap_page(page),
-        Command::Track => say_track_page(page),
-        Command::Sample => say_sample_page(page),
-        Command::Help => say_help_page(page),
-        Command::Unknown => (),
+        Command::Check => {
+            "Prints 'sheet: ok' and the number of steps, people, roles, actions and arrows.\n\
+             Refusals: 1 to 6.\n"
+        }
+        Command::Show => {
+            "Prints the roles of each person and each action, each step with its action, the roles of that and its place in the first\n\
+             marking, each arrow in words, and whether the job is finished there; if not, the steps to do, those both due and included.\n\
+             Refusals: 1 to 6.\n"
+        }
+        Command::Write => {
+            "Reads the sheet, of six bodies or of five, and writes the graph and the first marking that it holds, in six: the same bytes,\n\
+             where it had six. In five bodies every step is its own action.\n\
+             Refusals: 1 to 6.\n"
+        }
+        Command::Cabinet => {
+            "Step 0 reboots, step K checks arm K, of which arm 1 is the lowest, and step ARMS + 1 publishes. At the start, and again after\n\
+             each reboot, every check is due and only the lowest is included; a check makes way for the next one, the last for publishing.\n\
+             Person 0, role 0, is the climber and checks; person 1, role 1, sits at the desk and publishes; either of them may reboot.\n\
+             Refusals: 30 (ARMS is not 2 to 16).\n"
+        }
+        Command::May => {
+            "Runs the journal, then prints a line 'may' for each person and role that may take a step.\n\
+             A step that nobody may take is 'blocked', with the reason: not included, what it waits for, or nobody holds its roles.\n\
+             With PERSON, a number from 0, both lines are of that person alone; one who is not there is refused with 11.\n\
+             It starts at the sheet's first marking, or with --from at that of a file of 24 bytes.\n\
+             Refusals: 1 to 6, 7, 8, then 11 to 15 of the first entry not allowed.\n"
+        }
+        Command::Ask => {
+            "Prints 'allowed: yes' and the entry, with its place behind those of the journal. Nothing is written.\n\
+             A refused entry is printed with what it waits for, if it does, and the marking before it.\n\
+             PERSON, STEP and ROLE are numbers from 0; one that is too large for an entry is refused with 11 as it is.\n\
+             It starts at the sheet's first marking, or with --from at that of a file of 24 bytes.\n\
+             Refusals: 1 to 6, 7 (a full journal too), 8, then 11 to 15 of the first entry not allowed, the one asked for last.\n"
+        }
+        Command::Take => {
+            "Prints 'taken: yes', the entry, the marking after it and whether the job is then finished. The entry's three bytes stand behind\n\
+             the journal and on the device before that is printed. What is refused is what 'ask' refuses, and leaves the journal as it was.\n\
+             A journal that is not there is an empty one, and is made for its first entry. It is an ordinary file and no other input.\n\
+             Two takes of one journal go one after the other: the journal is locked, and its folder with it, until the program ends.\n\
+             PERSON, STEP, ROLE and --from are those of 'ask'.\n\
+             Refusals: 1 to 6, 7 (a full journal too), 8, then 11 to 15 of the first entry not allowed, the one to take last.\n"
+        }
+        Command::Run => {
+            "Prints the number of entries, the marking at the end (done, due, included), and whether the job is finished.\n\
+             A refused entry is printed with what it waits for, if it does, and the marking before it.\n\
+             OUT gets the marking at the end, 24 bytes, and --from takes such a file to start at.\n\
+             Refusals: 1 to 6, 7, 8, then 11 to 15 of the first entry not allowed.\n"
+        }
+        Command::Finished => {
+            "Prints 'finished: yes', or 'finished: no' and the steps to do, those both due and included.\n\
+             With --status the exit status is 0 for yes, 1 for no and 2 for anything else, a refusal among them.\n\
+             Refusals: 1 to 6, 7, then 11 to 15 of the first entry not allowed.\n"
+        }
+        Command::Ends => {
+            "Runs the journal and prints where it ends, then 'can end: yes' and the fewest entries that lead from there to a finished job,\n\
+             or 'can end: no' where no entries do. 'looked at' is the number of markings that were looked at on the way.\n\
+             What is found is kept in a store for MARKINGS markings, 1 to 2048, and for 2048 where the number is left out. Where that is\n\
+             full too early to tell, the answer is 'can end: undecided'.\n\
+             It starts at the sheet's first marking, or with --from at that of a file of 24 bytes. With --status the exit status is\n\
+             0 for yes, 1 for no and 2 for anything else, undecided and a refusal among them.\n\
+             Refusals: 1 to 6, 7, 8, then 11 to 15 of the first entry not allowed, then 22 (MARKINGS is not 1 to 2048).\n"
+        }
+        Command::Fold => {
+            "Prints the record and writes its 65 bytes to OUT. It acts as the journal does, at every marking.\n\
+             Where no marking allows the journal, it says because of which entry and writes nothing; with --never it writes the record\n\
+             that says so.\n\
+             Refusals: 1 to 6, 7.\n"
+        }
+        Command::Join => {
+            "Prints the joined record and writes its 65 bytes to OUT.\n\
+             Refusals: 2 (N is not 1 to 64), 10 (a record is not well-formed for N steps).\n"
+        }
+        Command::Apply => {
+            "MARKING has 24 bytes: done, due, included, 8 bytes each, lowest byte first. Prints the marking after; OUT gets it.\n\
+             Refusals: 2, 8, 10, and 16 where the record does not apply, with the marking as it was.\n"
+        }
+        Command::Restore => {
+            "From the sheet's first marking: the record, then the entries. Prints what 'run' prints; entries count in the rest.\n\
+             Refusals: 1 to 6, 7, 10, 16 where the record does not apply, then 11 to 15 of the first entry not allowed.\n"
+        }
+        Command::Record => {
+            "Prints the record, read for 64 steps: what it needs of a marking, and what it then does to it.\n\
+             Refusals: 10.\n"
+        }
+        Command::Marking => {
+            "Prints which steps are done, due and included. A marking has 24 bytes; 'run' and 'apply' write one, --from takes one.\n"
+        }
+        Command::Entries => {
+            "Prints the number of entries, then each with its person, step and role, whatever a sheet would say to it.\n\
+             Refusals: 7.\n"
+        }
+        Command::Lap => {
+            "Prints 'accepted' where each step that becomes due is later done or seen excluded, else 'starved' and the lowest step\n\
+             that stays due and included and is never done.\n\
+             A refused entry is printed with its pass: 0 stem, 1 first lap, 2 second lap, 3 a later one.\n\
+             It starts at the sheet's first marking, or with --from at that of a file of 24 bytes. With --status the exit status is\n\
+             0 for accepted, 1 for starved and 2 for anything else, a refusal among them.\n\
+             Refusals: 1 to 6, 7, 8, 17 (the lap is empty), then 11 to 15.\n"
+        }
+        Command::Track => {
+            "Prints the rank and the flag at the start and after each entry, then the marking. Ranks count from 1: step 0 has rank 1.\n\
+             A refused entry is printed with the rank, flag and marking before it.\n\
+             It starts at the sheet's first marking, or with --from at that of a file of 24 bytes.\n\
+             Refusals: 1 to 6, 7, 8, then 11 to 15 of the first entry not allowed.\n"
+        }
+        Command::Sample => {
+            "FOLDER ('sample', where none is named) is made if it is missing. Its files: job.sheet, start.marking, reboot.journal,\n\
+             check.journal, publish.journal, day.journal (all three) and empty.journal.\n\
+             Then the accident, line by line: a reboot must not lead to a publication before the order check, also not from a record.\n"
+        }
+        Command::Help => {
+            "'ulz help COMMAND' and 'ulz COMMAND --help' print its use, what its lines mean and the numbers that it can be refused by.\n"
+        }
     }
 }

@@ -1,6 +1,7 @@
 // The lines that the program prints, `key: value` each.
 #![tactic(auto)]
 
+pub mod display;
 pub mod names;
 pub mod places;
 pub mod refusals;

@@ -1,102 +1,98 @@
 // The page: what is printed and not yet written out. It is lent to whatever prints, so that a command makes few writes, and it
 // keeps whether one of them failed, so that nobody can overlook it. Whoever has it may also reach what the program was started with.
-ghost use Rattle.std.specs.Prelude.{◌≡◌, ◌≤◌, ◌<◌};
+ghost use Rattle.std.specs.Prelude.{◌≡◌, []};
 ghost use Rattle.output.specs.Status.{is_whole};
 
+use arrayvec::ArrayVec;
+use std::fmt;
+use std::fmt::{Display, Write};
 use std::io::Print;
 
 pub const ROOM: usize = 8192;
 
-// The text, how long it is, and whether the output is torn.
+// The text, and whether the output is torn.
 #[derive(Drop)]
 pub struct Page {
-    text: [u8; ROOM],
-    used: usize,
+    text: ArrayVec<u8, ROOM>,
     torn: bool,
     rt: HostRuntime,
 }
 
-pub fn blank(rt: HostRuntime) -> Page {
-    Page {
-        text: [0u8; ROOM],
-        used: 0,
-        torn: false,
-        rt,
-    }
-}
-
 impl Page {
+    pub fn blank(rt: HostRuntime) -> Page {
+        Page {
+            text: ArrayVec::new(),
+            torn: false,
+            rt,
+        }
+    }
+
     // The system that the page is written to.
     pub fn rt(&self) -> HostRuntime {
         self.rt
     }
+
+    // Behind a torn place nothing more is written.
+    fn write_out(&mut self)
+        ensures { self.new.text.items ≡ [] }
+    {
+        if !self.torn {
+            self.torn = self.rt.stdout().write_all(&self.text).is_err();
+        }
+        self.text.clear();
+    }
+
+    pub fn put(&mut self, b: u8) {
+        if self.text.try_push(b).is_err() {
+            self.write_out();
+            self.text.push(b);
+        }
+    }
+
+    // What `write!(page, ..)` calls. It answers nothing, since the page keeps whether it is torn.
+    pub fn write_fmt<T: Display + Drop>(&mut self, text: T) {
+        let _ = self.write(text);
+    }
+
+    // Writes out what is left. Was everything written, now and before?
+    pub fn flush(&mut self) -> bool
+        ensures { result ≡ is_whole self.new }
+    {
+        self.write_out();
+        !self.torn
+    }
+
+    // A page that was begun for a complaint: its text goes to standard error.
+    pub fn complain(self) {
+        let _ = self.rt.stderr().write_all(&self.text);
+    }
 }
 
-// How much text there is. No page has more than its room, so that the second answer is never given.
-fn length(page: &Page) -> usize
-    ensures { result ≤ 8192 }
-{
-    let n = page.used;
-    if n <= ROOM {
-        return n;
-    }
-    ROOM
-}
-
-// Were the first n bytes written? A text that has no n bytes is not.
-fn write_front(to: impl Print + Drop, text: &[u8], n: usize) -> bool {
-    if n <= text.len() {
-        return to.write_all(&text[..n]).is_ok();
-    }
-    false
-}
-
-// Behind a torn place nothing more is written.
-fn write_out(page: &mut Page) {
-    let n = length(page);
-    page.used = 0;
-    if page.torn {
-        return;
-    }
-    if !write_front(page.rt.stdout(), &page.text, n) {
-        page.torn = true;
+impl Write for Page {
+    fn write_str(&mut self, text: &str) -> fmt::Result {
+        for b in text.as_bytes() {
+            self.put(*b);
+        }
+        Ok(())
     }
 }
 
-fn put_at(page: &mut Page, n: usize, b: u8)
-    requires { n < 8192 }
-{
-    page.text[n] = b;
-    page.used = n + 1;
+// The same as functions, for callers that have not gone over to the methods.
+pub fn blank(rt: HostRuntime) -> Page {
+    Page::blank(rt)
 }
 
 pub fn put(page: &mut Page, b: u8) {
-    let n = length(page);
-    if n < ROOM {
-        put_at(page, n, b);
-        return;
-    }
-    write_out(page);
-    put_at(page, 0, b);
+    page.put(b);
 }
 
 pub fn say(page: &mut Page, text: &[u8]) {
     for b in text {
-        put(page, *b);
+        page.put(*b);
     }
 }
 
-// Writes out what is left. Was everything written, now and before?
-pub fn flush(page: &mut Page) -> bool
-    ensures { result ≡ is_whole page.new }
-{
-    write_out(page);
-    !page.torn
-}
-
-// A page that was begun for a complaint: its text goes to standard error.
 pub fn complain_with(page: &mut Page) {
-    let n = length(page);
-    page.used = 0;
-    write_front(page.rt.stderr(), &page.text, n);
+    let _ = page.rt.stderr().write_all(&page.text);
+    page.text.clear();
 }

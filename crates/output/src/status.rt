@@ -2,7 +2,7 @@
 ghost use Rattle.std.specs.Prelude.{◌≡◌};
 ghost use Rattle.output.specs.Status.{plain_of, asked_of, said_of, status_of, is_whole};
 
-use crate::page::{Page, flush};
+use crate::page::Page;
 
 // What a command came to. A question that can be asked by status has the answers yes, which is Answered, and No; Unsure is neither: it
 // was answered that the room did not suffice to tell.
@@ -66,6 +66,6 @@ pub fn status(asked: bool, a: Answer, whole: bool) -> u8
 pub fn ended(page: &mut Page, asked: bool, a: Answer) -> u8
     ensures { result ≡ status_of asked a (is_whole page.new) }
 {
-    let whole = flush(page);
+    let whole = page.flush();
     status(asked, a, whole)
 }

@@ -1,14 +1,14 @@
 -- Byte 0 tells the form; it and the length are asked by it, and then the contents decide.
-use Rattle.std.proofs.Common.{arith, Bool, true, ◌+◌, ◌*◌, ◌≤◌, ◌<◌, ◌≡◌, ◌&&◌, sym, ap, ap₂, ◌∙◌, subst, length, get_or, eqb, leb, eq-eqb, ne_eqb, le-leb}
-use Rattle.std.proofs.lemmas.Bool.{lt-leb}
+use Rattle.std.proofs.Common.{arith, Bool, true, ◌+◌, ◌*◌, ◌≤◌, ◌<◌, ◌≡◌, ◌&&◌, sym, ap, ap₂, ◌∙◌, subst, length, is_ok, get_or, eqb, leb, eq-eqb, ne_eqb, le-leb}
+use Rattle.std.proofs.lemmas.Bool.{eqb-true, lt-leb}
 use Rattle.reading.specs.declared.Form.{Form}
 use Rattle.reading.specs.Reading.{form_of}
 use Rattle.reading.specs.Laws.{Formed, form_formed}
-use Rattle.flaws.specs.Laid.{is_nothing, parts_fit, laid_out, none_laid}
+use Rattle.flaws.specs.Laid.{parts_fit, laid_out, none_laid}
 use Rattle.flaws.proofs.layouts.first_fault.Goals as goal
 
-pub returns-then-s-eq0 : goal.returns-then-s-eq0
-returns-then-s-eq0 c = sym (none_laid c.args.s.now c.if-s-eq0.true)
+pub returns-then-is_empty : goal.returns-then-is_empty
+returns-then-is_empty c = sym (none_laid c.args.s.now (eqb-true (length c.args.s.now) 0 (sym (c.if-is_empty.ensures))))
 
 pub returns-then-first-f : goal.returns-then-first-f
 returns-then-first-f c =
@@ -51,7 +51,7 @@ pub returns : goal.returns
 returns c =
     let s = c.args.s.now in
     let f = form_of s in
-    let asked : is_nothing c.contents_fault.result ≡ parts_fit f s =
+    let asked : is_ok c.contents_fault.result ≡ parts_fit f s =
     c.contents_fault.ensures ∙ ap (λ (f : Form). parts_fit f s) c.form_of-f.ensures in
     let first : eqb (get_or s 0 0) f.bodies ≡ true =
     ap (λ (f : Form). eqb (get_or s 0 0) f.bodies) (sym c.form_of-f.ensures) ∙ eq-eqb (get_or s 0 0) _ c.if-first-f.false in
