@@ -1,7 +1,8 @@
 -- The word that names each command.
 use Rattle.std.specs.Prelude.{ℕ, List, codes}
 use Rattle.commands.specs.declared.Command.{Command}
-use Rattle.commands.specs.declared.Command.TheVariants.{Check, Show, Write, Cabinet, May, Ask, Take, Run, Finished, Ends, Fold, Join, Apply, Restore, Record, Marking, Entries, Lap, Track, Sample, Help}
+use Rattle.commands.specs.declared.Command.TheVariants.{Check, Show, Write, Cabinet, May, Ask, Take, Run, Finished, Ends}
+use Rattle.commands.specs.declared.Command.TheVariants.{Fold, Join, Apply, Restore, Record, Marking, Entries, Lap, Track, Sample, Help}
 
 abbrev pub word_of : Command → List ℕ
 word_of Check = codes "check"

@@ -11,8 +11,8 @@ pub const PATH_MAX: usize = 4096;
 const OPERANDS_MAX: usize = 7;
 
 // An argument is named by its place. The operands, the command before its own; which options were given; the value of --from; does `-`
-// stand more than once among what names a file? Then what is wrong: the first option that is none, an option whose value is missing, and
-// the first argument that is too long.
+// stand among what names a file, once or more often; did `--` end the options? Then what is wrong: the first option that is none, an
+// option whose value is missing, and the first argument that is too long.
 #[derive(Default, Drop)]
 pub struct Call {
     operands: ArrayVec<usize, OPERANDS_MAX>,
@@ -150,6 +150,7 @@ impl Call {
     }
 }
 
+// Word by word by its place: std's `env::args` puts each word on the heap.
 pub fn called(rt: &HostRuntime) -> Call {
     let mut call = Call::default();
     for i in 1..usize::MAX {

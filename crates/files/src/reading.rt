@@ -27,7 +27,8 @@ fn read_some(from: &mut impl Read, part: &mut [u8]) -> io::Result<usize>
     Err(Error::from_raw_os_error(EINTR))
 }
 
-// Reads until the room is full or the input ends.
+// Reads until the room is full or the input ends. A loop by hand: std's read_to_end needs the heap, and read_exact does not tell how much
+// came before the end.
 fn read_all(from: &mut impl Read, room: &mut [u8]) -> io::Result<usize>
     ensures { ReadsAtMost result room.new }
 {

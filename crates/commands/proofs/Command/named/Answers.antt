@@ -2,13 +2,15 @@
 use Rattle.std.proofs.Common.{rules, arith, ◌≡◌, ◌≢◌, ℕ, ◌<◌, List, [], ◌∷◌, refl, get_or}
 use Rattle.std.proofs.iter.runs.Made.{chains}
 use Rattle.commands.specs.declared.Command.{Command as Named}
-use Rattle.commands.specs.declared.Command.TheVariants.{Check, Show, Write, Cabinet, May, Ask, Take, Run, Finished, Ends, Fold, Join, Apply, Restore, Record, Marking, Entries, Lap, Track, Sample, Help}
+use Rattle.commands.specs.declared.Command.TheVariants.{Check, Show, Write, Cabinet, May, Ask, Take, Run, Finished, Ends}
+use Rattle.commands.specs.declared.Command.TheVariants.{Fold, Join, Apply, Restore, Record, Marking, Entries, Lap, Track, Sample, Help}
 use Rattle.std.specs.Slice.Iter.{iter_rest}
 use Rattle.commands.specs.Words.{word_of}
 use Rattle.commands.proofs.Command.named.Goals as goal
 
 abbrev all : List Named
-all = Check ∷ Show ∷ Write ∷ Cabinet ∷ May ∷ Ask ∷ Take ∷ Run ∷ Finished ∷ Ends ∷ Fold ∷ Join ∷ Apply ∷ Restore ∷ Record ∷ Marking ∷ Entries ∷ Lap ∷ Track ∷ Sample ∷ Help ∷ []
+all = Check ∷ Show ∷ Write ∷ Cabinet ∷ May ∷ Ask ∷ Take ∷ Run ∷ Finished ∷ Ends ∷
+    Fold ∷ Join ∷ Apply ∷ Restore ∷ Record ∷ Marking ∷ Entries ∷ Lap ∷ Track ∷ Sample ∷ Help ∷ []
 
 place : (c : Named) → (k : ℕ) × (k < 21) × (get_or all k Check ≡ c)
 place Check = (0, omega arith, refl)
