@@ -1,17 +1,8 @@
 // The paper's Fig. 3(a) and 3(b). The figures are pictures, so each arrow is taken from the text of section 3 that is quoted above it.
 //
-// Steps: 0 sign, 1 give medicine, 2 prescribe medicine, 3 don't trust. Section 4 gives sign rank 1, so it stands first.
-// Roles: 0 doctor, 1 nurse. Person 0 is a doctor, person 1 a nurse.
+// Steps: 0 sign, 1 give medicine, 2 prescribe medicine, 3 don't trust. Roles: 0 doctor, 1 nurse. Person 0 is a doctor, person 1 a nurse.
 use moves::Marking;
 use rules::{ALLOWS, CONDITIONS, EXCLUDES, HOLDS, INCLUDES, Job, LABELS, RESPONSES, WORDS};
-
-pub const SIGN: u8 = 0;
-
-pub const GIVE: u8 = 1;
-
-pub const PRESCRIBE: u8 = 2;
-
-pub const DISTRUST: u8 = 3;
 
 // Nothing done, nothing due, every step included.
 pub const START_A: Marking = Marking {

@@ -2,100 +2,70 @@
 // written is held against crates/hospital/stdout, and that against the paper's text, which is quoted here state by state.
 #![tactic(auto)]
 
-use graphs::{DISTRUST, GIVE, PRESCRIBE, SIGN, START_A, START_B};
-use moves::{Entry, Marking, Move, Step};
+use events::Event;
+use events::Event::{Distrust, Give, Prescribe, Sign};
+use graphs::{START_A, START_B};
+use moves::Marking;
+use output::page::Page;
 use rules::Job;
-use show::{say, say_marking, say_name, say_track};
-use tracker::{Track, Tracked};
+use show::{say_marking, say_track};
+use tracker::{Track, Unmoved};
 
+mod events;
 mod graphs;
 mod show;
 
-// The doctor signs and prescribes, the nurse gives and distrusts.
-fn by(s: u8) -> Entry {
-    if s % 2 == 0 {
-        Entry {
-            person: 0,
-            step: Step(s),
-            role: 0,
+// Take a step and show the state after it.
+fn act(page: &mut Page, g: &Job, m: Marking, e: Event) -> Marking {
+    write!(page, "{e}");
+    match rules::take(g, m, e.entry()) {
+        Ok(next) => {
+            writeln!(page);
+            say_marking(page, g, next);
+            next
         }
-    } else {
-        Entry {
-            person: 1,
-            step: Step(s),
-            role: 1,
+        Err(denied) => {
+            writeln!(page, ": refused");
+            denied.marking
         }
     }
 }
 
-// Take a step and show the state after it.
-fn act(rt: &impl Print, g: &Job, m: Marking, s: u8) -> Marking {
-    say_name(rt, s);
-    let o = rules::take(g, m, by(s));
-    match o {
-        Move::Moved(next) => {
-            say(rt, b"\n");
-            say_marking(rt, g, next);
-            next
-        }
-        Move::Refused(before, _) => {
-            say(rt, b": refused\n");
-            before
-        }
+// The start, and the state after each step.
+fn run(page: &mut Page, g: &Job, start: Marking, events: &[Event]) {
+    writeln!(page, "start");
+    say_marking(page, g, start);
+    let mut m = start;
+    for e in events {
+        m = act(page, g, m, *e);
     }
 }
 
 // Medicine is given several times, and a new prescription with its signature comes between without holding the nurse up.
-fn figure_3a(rt: &impl Print, g: &Job) {
-    say(rt, b"Fig. 3(a)\nstart\n");
-    say_marking(rt, g, START_A);
-    let a = act(rt, g, START_A, GIVE);
-    let b = act(rt, g, a, PRESCRIBE);
-    let c = act(rt, g, b, SIGN);
-    let d = act(rt, g, c, GIVE);
-    let e = act(rt, g, d, GIVE);
-    let f = act(rt, g, e, PRESCRIBE);
-    let h = act(rt, g, f, GIVE);
-    act(rt, g, h, SIGN);
-}
+const FIGURE_3A: [Event; 8] = [Give, Prescribe, Sign, Give, Give, Prescribe, Give, Sign];
 
 // Four states: at first only prescribe medicine is free; after it sign and give medicine are due, and sign is free; after sign the other
 // two are free; after give medicine don't trust is out.
-fn figure_5a(rt: &impl Print, g: &Job) {
-    say(rt, b"\nFig. 5(a)\nstart\n");
-    say_marking(rt, g, START_B);
-    let second = act(rt, g, START_B, PRESCRIBE);
-    let third = act(rt, g, second, SIGN);
-    act(rt, g, third, GIVE);
-}
+const FIGURE_5A: [Event; 3] = [Prescribe, Sign, Give];
 
 // Six states: the third step is don't trust, after which give medicine is out and still due, and sign is due; sign lets give medicine in
 // again; at the end everything was done once and don't trust is out.
-fn figure_5b(rt: &impl Print, g: &Job) {
-    say(rt, b"\nFig. 5(b)\nstart\n");
-    say_marking(rt, g, START_B);
-    let second = act(rt, g, START_B, PRESCRIBE);
-    let third = act(rt, g, second, SIGN);
-    let fourth = act(rt, g, third, DISTRUST);
-    let fifth = act(rt, g, fourth, SIGN);
-    act(rt, g, fifth, GIVE);
-}
+const FIGURE_5B: [Event; 5] = [Prescribe, Sign, Distrust, Sign, Give];
 
 // A step of the automaton.
-fn track(rt: &impl Print, g: &Job, t: Track, s: u8) -> Track {
-    say_name(rt, s);
-    let o = tracker::advance(g, t, by(s));
-    match o {
-        Tracked::At(next) => {
-            say_track(rt, next);
+fn track(page: &mut Page, g: &Job, t: Track, e: Event) -> Track {
+    write!(page, "{e}");
+    match tracker::advance(g, t, e.entry()) {
+        Ok(next) => {
+            say_track(page, next);
             next
         }
-        Tracked::Stays(before, _) => {
-            say(rt, b": refused\n");
+        Err(Unmoved::Stays(before, _)) => {
+            writeln!(page, ": refused");
             before
         }
-        Tracked::Refused(_) => {
-            say(rt, b": refused\n");
+        Err(Unmoved::Refused(_)) => {
+            writeln!(page, ": refused");
             t
         }
     }
@@ -103,36 +73,40 @@ fn track(rt: &impl Print, g: &Job, t: Track, s: u8) -> Track {
 
 // In S7 and in S11 sign, of rank 1, and give medicine are both pending. From S7 sign leads to S10, whose flag is up, and give medicine to
 // S9, whose flag is down. From S11 it is the other way round: give medicine leads to S16 with the flag up, sign to S12 with the flag down.
-fn figure_6(rt: &impl Print, g: &Job) {
-    say(rt, b"\nFig. 6\nstart");
-    let o = tracker::start(g, START_A);
-    let Tracked::At(start) = o else {
-        say(rt, b": refused\n");
+fn figure_6(page: &mut Page, g: &Job) {
+    write!(page, "\nFig. 6\nstart");
+    let Ok(start) = tracker::start(g, START_A) else {
+        writeln!(page, ": refused");
         return;
     };
-    say_track(rt, start);
-    let a = track(rt, g, start, PRESCRIBE);
-    let b = track(rt, g, a, SIGN);
-    let c = track(rt, g, b, GIVE);
-    say(rt, b"to S7: ");
-    let s7 = track(rt, g, c, PRESCRIBE);
-    say(rt, b"S7 to S9: ");
-    track(rt, g, s7, GIVE);
-    say(rt, b"S7 to S10: ");
-    let s10 = track(rt, g, s7, SIGN);
-    say(rt, b"to S11: ");
-    let s11 = track(rt, g, s10, PRESCRIBE);
-    say(rt, b"S11 to S12: ");
-    track(rt, g, s11, SIGN);
-    say(rt, b"S11 to S16: ");
-    track(rt, g, s11, GIVE);
+    say_track(page, start);
+    let a = track(page, g, start, Prescribe);
+    let b = track(page, g, a, Sign);
+    let c = track(page, g, b, Give);
+    write!(page, "to S7: ");
+    let s7 = track(page, g, c, Prescribe);
+    write!(page, "S7 to S9: ");
+    track(page, g, s7, Give);
+    write!(page, "S7 to S10: ");
+    let s10 = track(page, g, s7, Sign);
+    write!(page, "to S11: ");
+    let s11 = track(page, g, s10, Prescribe);
+    write!(page, "S11 to S12: ");
+    track(page, g, s11, Sign);
+    write!(page, "S11 to S16: ");
+    track(page, g, s11, Give);
 }
 
 fn main(rt: HostRuntime) {
+    let mut page = Page::blank(rt);
     let a = graphs::prescribe();
     let b = graphs::check();
-    figure_3a(&rt, &a);
-    figure_5a(&rt, &b);
-    figure_5b(&rt, &b);
-    figure_6(&rt, &a);
+    writeln!(page, "Fig. 3(a)");
+    run(&mut page, &a, START_A, &FIGURE_3A);
+    writeln!(page, "\nFig. 5(a)");
+    run(&mut page, &b, START_B, &FIGURE_5A);
+    writeln!(page, "\nFig. 5(b)");
+    run(&mut page, &b, START_B, &FIGURE_5B);
+    figure_6(&mut page, &a);
+    page.flush();
 }

@@ -1,81 +1,57 @@
 // States as plain lines.
-use itoa::Buffer;
+use crate::events::Event;
 use moves::Marking;
+use output::page::Page;
 use rules::{CONDITIONS, Job};
 use tracker::Track;
 
-pub fn say(rt: &impl Print, text: &[u8]) {
-    let _ = rt.write_all(text);
-}
-
-pub fn say_name(rt: &impl Print, s: u8) {
-    match s {
-        0 => say(rt, b"sign"),
-        1 => say(rt, b"give medicine"),
-        2 => say(rt, b"prescribe medicine"),
-        _ => say(rt, b"don't trust"),
-    }
-}
-
 // What the icons of Fig. 5 say of a step: its box dashed if it is excluded, a tick if it has been done, a mark if it is due, and a
 // sign if a condition of it is included and not done.
-fn say_step(rt: &impl Print, conditions: u64, m: Marking, s: u8) {
-    if 63 < s {
-        return;
-    }
-    say(rt, b"  ");
-    say_name(rt, s);
-    say(rt, b":");
+fn say_step(page: &mut Page, g: &Job, m: Marking, e: Event) {
+    let s = e as u8;
+    write!(page, "  {e}:");
     if sets::has(m.included, s) {
-        say(rt, b" included");
+        write!(page, " included");
     } else {
-        say(rt, b" excluded");
+        write!(page, " excluded");
     }
     if sets::has(m.done, s) {
-        say(rt, b", done");
+        write!(page, ", done");
     }
     if sets::has(m.due, s) {
-        say(rt, b", due");
+        write!(page, ", due");
     }
-    if moves::inner::waits(conditions, m) != 0 {
-        say(rt, b", blocked");
+    if moves::inner::waits(g[CONDITIONS + e as usize], m) != 0 {
+        write!(page, ", blocked");
     }
-    say(rt, b"\n");
+    writeln!(page);
 }
 
-pub fn say_marking(rt: &impl Print, g: &Job, m: Marking) {
-    say_step(rt, g[CONDITIONS + 2], m, 2);
-    say_step(rt, g[CONDITIONS], m, 0);
-    say_step(rt, g[CONDITIONS + 1], m, 1);
+pub fn say_marking(page: &mut Page, g: &Job, m: Marking) {
+    say_step(page, g, m, Event::Prescribe);
+    say_step(page, g, m, Event::Sign);
+    say_step(page, g, m, Event::Give);
     if 3 < g[0] {
-        say_step(rt, g[CONDITIONS + 3], m, 3);
+        say_step(page, g, m, Event::Distrust);
     }
     if m.due & m.included == 0 {
-        say(rt, b"  finished\n");
+        writeln!(page, "  finished");
     } else {
-        say(rt, b"  not finished\n");
+        writeln!(page, "  not finished");
     }
 }
 
-pub fn say_track(rt: &impl Print, t: Track) {
-    let m = t.marking;
-    let due = m.due & m.included;
-    say(rt, b": rank ");
-    let mut rank = Buffer::new();
-    say(rt, rank.format(t.rank.0).as_bytes());
-    if t.flag {
-        say(rt, b", accepting, due:");
-    } else {
-        say(rt, b", not accepting, due:");
-    }
-    if sets::has(due, 0) {
-        say(rt, b" sign");
-    }
-    if sets::has(due, 1) {
-        say(rt, b" give medicine");
+pub fn say_track(page: &mut Page, t: Track) {
+    let due = t.marking.due & t.marking.included;
+    let verdict = if t.flag { "accepting" } else { "not accepting" };
+    write!(page, ": rank {}, {verdict}, due:", t.rank.0);
+    for e in [Event::Sign, Event::Give] {
+        if sets::has(due, e as u8) {
+            write!(page, " {e}");
+        }
     }
     if due == 0 {
-        say(rt, b" nothing");
+        write!(page, " nothing");
     }
-    say(rt, b"\n");
+    writeln!(page);
 }
