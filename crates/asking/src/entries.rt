@@ -1,26 +1,21 @@
 // One entry more behind a journal: is it allowed, and is it put there?
 use files::appending::{End, append};
-use finding::entries::say_found_of;
-use journal::Ran;
-use lines::places::Places;
+use files::complaints::Complained;
+use journal::Ended;
 use lines::refusals::{say_refused, say_waited};
-use lines::say::say;
-use lines::states::{Stated, say_ending, say_marking, say_stated};
-use moves::{Asked, Entry, Marking, Move, Refusal, Step};
+use lines::states::{Stated, say_ending, say_marking};
+use moves::{Entry, Marking, Refusal, Step};
 use output::page::Page;
 use output::status::Answer;
 use rules::Job;
-use running::runs::say_halted;
+use running::course::Course;
 
 // The most bytes that a journal may have: no entry more fits.
 const FULL: usize = 65535;
 
 // There are at most 64 of anything, so that 255 stands for every number that no byte has: nobody, no step, no role.
 fn narrow(x: u64) -> u8 {
-    if 255 < x {
-        return 255;
-    }
-    x as u8
+    u8::try_from(x).unwrap_or(u8::MAX)
 }
 
 fn entry_of(e: Stated) -> Entry {
@@ -31,65 +26,57 @@ fn entry_of(e: Stated) -> Entry {
     }
 }
 
-fn say_full(page: &mut Page, at: usize, j: &[u8]) -> Answer {
-    let refused = say_refused(page, at, Refusal::Length);
-    finding::journals::say_full(page, j);
+fn say_full(page: &mut Page, course: &Course) -> Answer {
+    let refused = say_refused(page, course.journal.at, Refusal::Length);
+    finding::journals::say_full(page, course.journal.bytes);
     refused
 }
 
-fn say_line(page: &mut Page, k: u16, e: Stated) {
-    say_stated(page, k as u64, e);
-    say(page, b"\n");
-}
-
-// The entry stands in no file, so that none is named. At marking m, behind k entries.
-fn say_not(page: &mut Page, g: &Job, m: Marking, k: u16, e: Stated, r: Refusal) -> Answer {
-    let refused = say_refused(page, 0, r);
-    say_found_of(page, g, e, moves::tell(r));
-    say_line(page, k, e);
+// The entry stands in no file, so that none is named.
+fn say_not(page: &mut Page, g: &Job, end: Ended, e: Stated, r: Refusal) -> Answer {
+    let refused = say_refused(page, None, r);
+    finding::entries::say_found(page, g, e, r);
+    writeln!(page, "entry {}: {e}", end.entries);
     say_waited(page, r);
-    say_marking(page, m);
+    say_marking(page, end.marking);
     refused
 }
 
-fn ask_at(page: &mut Page, g: &Job, m: Marking, k: u16, e: Stated) -> Answer {
-    let o = rules::ask(g, m, entry_of(e));
-    match o {
-        Asked::Allowed => {
-            say(page, b"allowed: yes\n");
-            say_line(page, k, e);
+fn ask_at(page: &mut Page, g: &Job, end: Ended, e: Stated) -> Answer {
+    match rules::ask(g, end.marking, entry_of(e)) {
+        Ok(()) => {
+            writeln!(page, "allowed: yes\nentry {}: {e}", end.entries);
             Answer::Answered
         }
-        Asked::Refused(r) => say_not(page, g, m, k, e, r),
+        Err(r) => say_not(page, g, end, e, r),
     }
 }
 
-// The entry behind the journal, by a call that starts at marking m.
-pub fn ask(page: &mut Page, p: Places, g: &Job, m: Marking, j: &[u8], e: Stated) -> Answer {
-    if j.len() == FULL {
-        return say_full(page, p.journal, j);
+// The entry behind the journal.
+pub fn ask(page: &mut Page, course: &Course, e: Stated) -> Answer {
+    if course.journal.bytes.len() == FULL {
+        return say_full(page, course);
     }
-    let o = journal::run(g, m, j);
-    match o {
-        Ran::Ended(end, k) => ask_at(page, g, end, k, e),
-        Ran::Stopped(k, before, r) => say_halted(page, p, g, m, j, k, r, before),
+    match course.run() {
+        Ok(end) => ask_at(page, course.job, end, e),
+        Err(stopped) => course.say_halted(page, stopped),
     }
 }
 
-// Are the entry's bytes behind the k entries of the journal that argument `at` names, if it was found? Else it was complained of.
-fn is_kept(page: &Page, at: usize, found: bool, k: u16, e: Entry) -> bool {
-    let bytes = [e.person, e.step.0, e.role];
-    let end = End {
-        at: at,
-        found: found,
-        length: 3 * (k as u32),
-    };
-    append(&page.rt(), end, &bytes)
+// Puts the entry's bytes behind the journal that argument `at` names, if one does. A journal that was not found is made.
+fn keep(page: &Page, at: Option<usize>, end: Option<u32>, e: Entry) -> Result<(), Complained> {
+    match at {
+        Some(at) => append(
+            &page.rt(),
+            End { at, length: end },
+            &[e.person, e.step.0, e.role],
+        ),
+        None => Ok(()),
+    }
 }
 
 fn say_taken(page: &mut Page, g: &Job, after: Marking, k: u16, e: Stated) -> Answer {
-    say(page, b"taken: yes\n");
-    say_line(page, k, e);
+    writeln!(page, "taken: yes\nentry {k}: {e}");
     say_marking(page, after);
     say_ending(page, rules::finished(g, after), after)
 }
@@ -97,43 +84,36 @@ fn say_taken(page: &mut Page, g: &Job, after: Marking, k: u16, e: Stated) -> Ans
 // It is said to be taken when it is on the device.
 fn take_at(
     page: &mut Page,
-    p: Places,
-    g: &Job,
-    m: Marking,
-    k: u16,
+    course: &Course,
+    end: Ended,
     e: Stated,
-    at: usize,
-) -> Answer {
+    at: Option<usize>,
+) -> Result<Answer, Complained> {
     let entry = entry_of(e);
-    let o = rules::take(g, m, entry);
-    match o {
-        Move::Moved(after) => {
-            if !is_kept(page, at, p.journal != 0, k, entry) {
-                return Answer::Failed;
-            }
-            say_taken(page, g, after, k, e)
+    match rules::take(course.job, end.marking, entry) {
+        Ok(after) => {
+            let k = end.entries;
+            let found = course.journal.at;
+            keep(page, at, found.map(|_| 3 * u32::from(k)), entry)?;
+            Ok(say_taken(page, course.job, after, k, e))
         }
-        Move::Refused(_, r) => say_not(page, g, m, k, e, r),
+        Err(denied) => Ok(say_not(page, course.job, end, e, denied.refusal)),
     }
 }
 
-// The same, and an entry that is allowed is put behind the journal that argument `at` names. It may not be there yet: then no place of
-// the call is the journal's, and it is made.
+// The same, and an entry that is allowed is put behind the journal that argument `at` names. It may not be there yet: then nothing
+// names the course's journal, and it is made.
 pub fn take(
     page: &mut Page,
-    p: Places,
-    g: &Job,
-    m: Marking,
-    j: &[u8],
+    course: &Course,
     e: Stated,
-    at: usize,
-) -> Answer {
-    if j.len() == FULL {
-        return say_full(page, p.journal, j);
+    at: Option<usize>,
+) -> Result<Answer, Complained> {
+    if course.journal.bytes.len() == FULL {
+        return Ok(say_full(page, course));
     }
-    let o = journal::run(g, m, j);
-    match o {
-        Ran::Ended(end, k) => take_at(page, p, g, end, k, e, at),
-        Ran::Stopped(k, before, r) => say_halted(page, p, g, m, j, k, r, before),
+    match course.run() {
+        Ok(end) => take_at(page, course, end, e, at),
+        Err(stopped) => Ok(course.say_halted(page, stopped)),
     }
 }

@@ -1,7 +1,7 @@
 // Markings, endings, entries and records.
 use crate::display::Set;
 use crate::refusals::say_refused;
-use moves::{Entry, Marking};
+use moves::{Entry, Marking, Refusal};
 use output::page::Page;
 use output::status::Answer;
 use records::Record;
@@ -17,18 +17,18 @@ pub fn say_marking(page: &mut Page, m: Marking) {
 }
 
 // The ending of a job at marking m; where it is open, with the steps that are both due and included.
-pub fn say_ending(page: &mut Page, e: Ending, m: Marking) -> Answer {
-    match e {
-        Ending::Finished => {
+pub fn say_ending(page: &mut Page, ending: Result<Ending, Refusal>, m: Marking) -> Answer {
+    match ending {
+        Ok(Ending::Finished) => {
             writeln!(page, "finished: yes");
             Answer::Answered
         }
-        Ending::Open => {
+        Ok(Ending::Open) => {
             writeln!(page, "finished: no");
             writeln!(page, "to do: {}", Set(sets::meet(m.due, m.included)));
             Answer::No
         }
-        Ending::Refused(r) => say_refused(page, None, r),
+        Err(r) => say_refused(page, None, r),
     }
 }
 

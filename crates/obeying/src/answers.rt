@@ -1,209 +1,173 @@
 // What each command answers.
-use asking::whom::Whom;
+use crate::task::{Inputs, Task};
 use calling::wrong::{complain_at, complain_unknown};
 use commands::Command;
-use commands::words::named;
 use files::arguments::{PATH_MAX, argument};
+use files::complaints::{Complained, complain_of};
 use files::writing::Target;
-use lines::places::Places;
 use lines::refusals::say_refused;
-use lines::states::{Stated, say_marking};
-use moves::{Marking, Verdict};
+use lines::states::say_marking;
+use moves::Marking;
 use output::page::Page;
 use output::status::Answer;
-use rules::{Job, WORDS};
+use rules::WORDS;
+use running::course::{Course, Input};
+use tour::parts::Folder;
 
-// What to answer: the command with its N or its arms, its entry, its people or the markings that its store has room for, the arguments
-// that name its files and the marking to start at, and the file to write. A journal that is added to is both, and none that is read where
-// it is not there yet.
-#[derive(Clone, Copy)]
-pub struct Task {
-    pub command: Command,
-    pub number: u64,
-    pub entry: Stated,
-    pub whom: Whom,
-    pub markings: u64,
-    pub first: usize,
-    pub second: usize,
-    pub third: usize,
-    pub from: usize,
-    pub never: bool,
-    pub target: Target,
+// What is wrong with a file that was read.
+fn complain_file(rt: &HostRuntime, file: Input, what: &str) -> Complained {
+    match file.at {
+        Some(i) => complain_at(rt, i, what),
+        None => complain_of(rt, b"", what),
+    }
 }
 
-// Which of them is what, by the command.
-fn places_of(t: Task) -> Places {
-    let mut p = Places {
-        sheet: t.first,
-        journal: t.second,
-        lap: 0,
-        record: 0,
-        marking: t.from,
-    };
-    let command = t.command;
-    match command {
-        Command::Restore => {
-            p.record = t.second;
-            p.journal = t.third;
-        }
-        Command::Lap => {
-            p.lap = t.third;
-        }
-        Command::Apply => {
-            p.sheet = 0;
-            p.record = t.first;
-            p.marking = t.second;
-        }
-        _ => (),
+// A marking is read at its length alone.
+fn marking_in(rt: &HostRuntime, file: Input) -> Result<Marking, Complained> {
+    if file.bytes.len() != 24 {
+        return Err(complain_file(rt, file, "a marking has 24 bytes"));
     }
-    p
+    Ok(bodies::read_marking(file.bytes))
 }
 
-// A marking is read at its length alone. Has it another? Then it was complained of.
-fn is_no_marking(rt: &HostRuntime, at: usize, marking: &[u8]) -> bool {
-    if marking.len() == 24 {
-        return false;
-    }
-    complain_at(rt, at, b"a marking has 24 bytes");
-    true
+fn apply(page: &mut Page, t: &Task, inputs: &Inputs) -> Result<Answer, Complained> {
+    let m = marking_in(&page.rt(), inputs.second)?;
+    let at = inputs.second.at;
+    recording::applying::apply(page, t.count(), inputs.first, m, at, t.target)
 }
 
-fn apply(page: &mut Page, t: Task, bytes: &[u8], marking: &[u8]) -> Answer {
-    if is_no_marking(&page.rt(), t.second, marking) {
-        return Answer::Failed;
-    }
-    let m = marking_in(marking);
-    recording::applying::apply(page, places_of(t), t.number, bytes, m, t.target)
-}
-
-fn marking_in(bytes: &[u8]) -> Marking {
-    if bytes.len() != 24 {
-        return Marking {
-            done: 0,
-            due: 0,
-            included: 0,
-        };
-    }
-    bodies::read_marking(bytes)
-}
-
-fn show_marking(page: &mut Page, t: Task, marking: &[u8]) -> Answer {
-    if is_no_marking(&page.rt(), t.first, marking) {
-        return Answer::Failed;
-    }
-    say_marking(page, marking_in(marking));
-    Answer::Answered
+fn show_marking(page: &mut Page, file: Input) -> Result<Answer, Complained> {
+    let m = marking_in(&page.rt(), file)?;
+    say_marking(page, m);
+    Ok(Answer::Answered)
 }
 
 // The file to write is the folder.
-fn sample(page: &mut Page, o: Target) -> Answer {
-    if o.at == 0 {
-        return tour::walk::sample(page, b"sample", o.force);
-    }
-    let mut folder = [0u8; PATH_MAX];
-    let n = argument(&page.rt(), o.at, &mut folder);
-    tour::walk::sample(page, &folder[..n], o.force)
+fn sample(page: &mut Page, t: Target) -> Result<Answer, Complained> {
+    let mut room = [0u8; PATH_MAX];
+    let name = match t.at {
+        Some(i) => argument(&page.rt(), i, &mut room),
+        None => b"sample",
+    };
+    let folder = Folder {
+        name,
+        force: t.force,
+    };
+    tour::walk::sample(page, folder)
 }
 
-// In its place stands a command.
-fn help(page: &mut Page, o: Target) -> Answer {
-    if o.at == 0 {
+// In the place of the file to write stands a command.
+fn help(page: &mut Page, at: Option<usize>) -> Result<Answer, Complained> {
+    let Some(i) = at else {
         guide::help::say_help(page);
-        return Answer::Answered;
-    }
-    let mut word = [0u8; PATH_MAX];
-    let n = argument(&page.rt(), o.at, &mut word);
-    let c = named(&word[..n]);
-    if let Command::Unknown = c {
-        complain_unknown(&page.rt(), &word[..n]);
-        return Answer::Failed;
-    }
-    guide::help::say_help_of(page, c);
-    Answer::Answered
-}
-
-// The commands on a job, from a marking.
-fn give_of(page: &mut Page, g: &Job, m: Marking, t: Task, b: &[u8], c: &[u8]) -> Answer {
-    let o = t.target;
-    let p = places_of(t);
-    let e = t.entry;
-    let w = t.whom;
-    let command = t.command;
-    match command {
-        Command::Check => showing::sheets::check(page, g),
-        Command::Show => showing::sheets::show(page, g, m),
-        Command::Write => showing::sheets::write(page, g, m, o, t.first),
-        Command::May => asking::choices::may(page, p, g, m, b, w),
-        Command::Ask => asking::entries::ask(page, p, g, m, b, e),
-        Command::Take => asking::entries::take(page, p, g, m, b, e, o.at),
-        Command::Run => running::runs::run(page, p, g, m, b, o),
-        Command::Finished => running::runs::finished(page, p, g, m, b),
-        Command::Ends => running::runs::ends(page, p, g, m, b, t.markings),
-        Command::Fold => recording::folds::fold(page, p, g, b, o, t.never),
-        Command::Restore => recording::applying::restore(page, p, g, m, b, c, o),
-        Command::Lap => running::laps_told::lap(page, p, g, m, b, c),
-        Command::Track => running::tracks::track(page, p, g, m, b),
-        _ => Answer::Failed,
+        return Ok(Answer::Answered);
+    };
+    let mut room = [0u8; PATH_MAX];
+    let word = argument(&page.rt(), i, &mut room);
+    match Command::named(word) {
+        Some(c) => {
+            guide::help::say_help_of(page, c);
+            Ok(Answer::Answered)
+        }
+        None => Err(complain_unknown(&page.rt(), word)),
     }
 }
 
-// The marking of --from, or the sheet's first.
-fn start_of(first: Marking, from: usize, start: &[u8]) -> Marking {
-    if from == 0 {
-        return first;
+// The marking of --from, if one is named.
+fn from_in(rt: &HostRuntime, from: Input) -> Result<Option<Marking>, Complained> {
+    match from.at {
+        Some(_) => Ok(Some(marking_in(rt, from)?)),
+        None => Ok(None),
     }
-    marking_in(start)
 }
 
-// The commands whose first file is a sheet.
-fn give_by_sheet(
+// What is answered on a job, whose sheet is the first input, with that journal. It starts at the marking of --from, or at the sheet's
+// first.
+fn on_job<F: FnOnce(&mut Page, &Course) -> Result<Answer, Complained>>(
     page: &mut Page,
-    t: Task,
-    sheet: &[u8],
-    b: &[u8],
-    c: &[u8],
-    start: &[u8],
-) -> Answer {
+    inputs: &Inputs,
+    journal: Input,
+    answer: F,
+) -> Result<Answer, Complained>
+    requires { F.IsAlwaysCallable answer }
+{
+    let from = from_in(&page.rt(), inputs.from)?;
+    let sheet = inputs.first;
     let mut g = [0u64; WORDS];
-    let o = sheet::read(sheet, &mut g);
-    let v = o.verdict;
-    if let Verdict::Refused(r) = v {
-        let refused = say_refused(page, t.first, r);
-        flaws::sheets::say_found(page, sheet, moves::tell(r).number);
-        return refused;
-    }
-    give_of(page, &g, start_of(o.first, t.from, start), t, b, c)
-}
-
-fn give_started(
-    page: &mut Page,
-    t: Task,
-    sheet: &[u8],
-    b: &[u8],
-    c: &[u8],
-    start: &[u8],
-) -> Answer {
-    if t.from != 0 {
-        if is_no_marking(&page.rt(), t.from, start) {
-            return Answer::Failed;
+    match sheet::read(sheet.bytes, &mut g) {
+        Ok(first) => {
+            let course = Course {
+                job: &g,
+                sheet: sheet.at,
+                start: from.unwrap_or(first),
+                from: inputs.from.at,
+                journal,
+            };
+            answer(page, &course)
+        }
+        Err(r) => {
+            let refused = say_refused(page, sheet.at, r);
+            flaws::sheets::say_found(page, sheet.bytes, r);
+            Ok(refused)
         }
     }
-    give_by_sheet(page, t, sheet, b, c, start)
 }
 
-pub fn give(page: &mut Page, t: Task, a: &[u8], b: &[u8], c: &[u8], start: &[u8]) -> Answer {
+pub fn give(page: &mut Page, t: &Task, inputs: &Inputs) -> Result<Answer, Complained> {
+    let Inputs {
+        first,
+        second,
+        third,
+        from: _,
+    } = *inputs;
     let o = t.target;
-    let command = t.command;
-    match command {
-        Command::Cabinet => showing::cabinets::write(page, t.number, o),
-        Command::Join => recording::folds::join(page, t.first, t.second, t.number, a, b, o),
-        Command::Apply => apply(page, t, a, b),
-        Command::Record => recording::folds::show(page, t.first, a),
-        Command::Marking => show_marking(page, t, a),
-        Command::Entries => running::listing::entries(page, a, t.first),
+    match t.command {
+        Command::Check => on_job(page, inputs, second, |page, c| {
+            Ok(showing::sheets::check(page, c.job))
+        }),
+        Command::Show => on_job(page, inputs, second, |page, c| {
+            Ok(showing::sheets::show(page, c.job, c.start))
+        }),
+        Command::Write => on_job(page, inputs, second, |page, c| {
+            showing::sheets::write(page, c.job, c.start, o, c.sheet)
+        }),
+        Command::Cabinet => showing::cabinets::write(page, t.count(), o),
+        Command::May => on_job(page, inputs, second, |page, c| {
+            Ok(asking::choices::may(page, c, t.person()))
+        }),
+        Command::Ask => on_job(page, inputs, second, |page, c| {
+            Ok(asking::entries::ask(page, c, t.entry()))
+        }),
+        Command::Take => on_job(page, inputs, second, |page, c| {
+            asking::entries::take(page, c, t.entry(), o.at)
+        }),
+        Command::Run => on_job(page, inputs, second, |page, c| {
+            running::runs::run(page, c, o)
+        }),
+        Command::Finished => on_job(page, inputs, second, |page, c| {
+            Ok(running::runs::finished(page, c))
+        }),
+        Command::Ends => on_job(page, inputs, second, |page, c| {
+            Ok(running::runs::ends(page, c, t.markings()))
+        }),
+        Command::Fold => on_job(page, inputs, second, |page, c| {
+            recording::folds::fold(page, c, o, t.never)
+        }),
+        Command::Join => recording::folds::join(page, t.count(), first, second, o),
+        Command::Apply => apply(page, t, inputs),
+        Command::Restore => on_job(page, inputs, third, |page, c| {
+            recording::applying::restore(page, c, second, o)
+        }),
+        Command::Record => Ok(recording::folds::show(page, first)),
+        Command::Marking => show_marking(page, first),
+        Command::Entries => Ok(running::listing::entries(page, first)),
+        Command::Lap => on_job(page, inputs, second, |page, c| {
+            Ok(running::laps_told::lap(page, c, third))
+        }),
+        Command::Track => on_job(page, inputs, second, |page, c| {
+            Ok(running::tracks::track(page, c))
+        }),
         Command::Sample => sample(page, o),
-        Command::Help => help(page, o),
-        Command::Unknown => Answer::Failed,
-        _ => give_started(page, t, a, b, c, start),
+        Command::Help => help(page, o.at),
     }
 }

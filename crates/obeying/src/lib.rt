@@ -3,3 +3,4 @@
 
 mod answers;
 pub mod calls;
+mod task;

@@ -1,115 +1,124 @@
 // Records applied to a marking.
+use files::complaints::Complained;
 use files::writing::Target;
-use journal::{Ran, Walked};
-use lines::places::{Places, place_of};
+use journal::Stopped;
+use journal::inner::length_fits;
 use lines::refusals::say_refused;
 use lines::states::say_marking;
 use moves::{Marking, Refusal};
 use output::page::Page;
 use output::status::Answer;
-use records::{Applied, Record, Recorded};
-use rules::Job;
+use records::Record;
+use running::course::{Course, Input, say_unmeasured};
 use running::markings::{keep_marking, say_kept};
-use running::runs::say_ran;
+use running::runs::say_ended;
 
-fn say_given(page: &mut Page, m: Marking, t: Target) -> Answer {
-    if !keep_marking(page, t, m) {
-        return Answer::Failed;
-    }
+fn say_given(page: &mut Page, m: Marking, t: Target) -> Result<Answer, Complained> {
+    keep_marking(page, t, m)?;
     say_marking(page, m);
     say_kept(page, t);
-    Answer::Answered
+    Ok(Answer::Answered)
 }
 
-// 16 gives back the marking that was handed in.
-fn say_unapplied(page: &mut Page, p: Places, record: Record, r: Refusal, m: Marking) -> Answer {
-    let refused = say_refused(page, place_of(p, r), r);
-    if moves::tell(r).number == 16 {
-        finding::recorded::say_unapplied(page, record, m);
-        say_marking(page, m);
-    }
+// 16 gives back the marking that was handed in; argument `at` names the record.
+fn say_unapplied(
+    page: &mut Page,
+    at: Option<usize>,
+    record: Record,
+    m: Marking,
+    r: Refusal,
+) -> Answer {
+    let refused = say_refused(page, at, r);
+    finding::recorded::say_unapplied(page, record, m);
+    say_marking(page, m);
     refused
-}
-
-fn say_applied(page: &mut Page, p: Places, record: Record, o: Applied, t: Target) -> Answer {
-    match o {
-        Applied::Gives(m) => say_given(page, m, t),
-        Applied::Refused(m, r) => say_unapplied(page, p, record, r, m),
-    }
 }
 
 // A record that was not read for n steps, 10.
-pub fn say_ill_formed(page: &mut Page, at: usize, n: u64, bytes: &[u8], r: Refusal) -> Answer {
-    let refused = say_refused(page, at, r);
-    finding::recorded::say_found(page, n, bytes);
+pub fn say_ill_formed(page: &mut Page, n: u64, record: Input, r: Refusal) -> Answer {
+    let refused = say_refused(page, record.at, r);
+    finding::recorded::say_found(page, n, record.bytes);
     refused
 }
 
-fn apply_read(page: &mut Page, p: Places, n: u64, bytes: &[u8], m: Marking, t: Target) -> Answer {
-    let o = spelling::read(n, bytes);
-    match o {
-        Recorded::Made(r) => say_applied(page, p, r, r.apply(m, n), t),
-        Recorded::Refused(r) => say_ill_formed(page, p.record, n, bytes, r),
+fn apply_read(
+    page: &mut Page,
+    n: u64,
+    record: Input,
+    m: Marking,
+    t: Target,
+) -> Result<Answer, Complained> {
+    match spelling::read(n, record.bytes) {
+        Ok(read) => match read.apply(m, n) {
+            Ok(after) => say_given(page, after, t),
+            Err(denied) => Ok(say_unapplied(page, record.at, read, denied.marking, denied.refusal)),
+        },
+        Err(r) => Ok(say_ill_formed(page, n, record, r)),
     }
 }
 
-// 2 is N's, which is in no file.
-fn say_unfit(page: &mut Page, p: Places, n: u64, m: Marking, r: Refusal) -> Answer {
-    let refused = say_refused(page, place_of(p, r), r);
-    if moves::tell(r).number == 8 {
-        finding::markings::say_found(page, n, m);
-    } else {
-        finding::recorded::say_count_of(page, n);
+// 8 is the marking's, which argument `at` names; 2 is N's, which is in no file.
+fn say_unfit(page: &mut Page, n: u64, m: Marking, at: Option<usize>, r: Refusal) -> Answer {
+    match r {
+        Refusal::Outside => {
+            let refused = say_refused(page, at, r);
+            finding::markings::say_found(page, n, m);
+            refused
+        }
+        _ => {
+            let refused = say_refused(page, None, r);
+            finding::recorded::say_count_of(page, n);
+            refused
+        }
     }
-    refused
 }
 
 // 2 and 8 come before 10, which the record's bytes alone can give: the identity, which always applies, asks for them first.
-pub fn apply(page: &mut Page, p: Places, n: u64, bytes: &[u8], m: Marking, t: Target) -> Answer {
-    let o = Record::IDENTITY.apply(m, n);
-    match o {
-        Applied::Gives(_) => apply_read(page, p, n, bytes, m, t),
-        Applied::Refused(_, r) => say_unfit(page, p, n, m, r),
+pub fn apply(
+    page: &mut Page,
+    n: u64,
+    record: Input,
+    m: Marking,
+    at: Option<usize>,
+    t: Target,
+) -> Result<Answer, Complained> {
+    match Record::IDENTITY.apply(m, n) {
+        Ok(_) => apply_read(page, n, record, m, t),
+        Err(denied) => Ok(say_unfit(page, n, m, at, denied.refusal)),
     }
 }
 
-fn restore_read(
+// 16 is the record's; else a run of the journal was refused.
+fn say_unrestored(
     page: &mut Page,
-    p: Places,
-    g: &Job,
-    m: Marking,
+    course: &Course,
+    at: Option<usize>,
     record: Record,
-    j: &[u8],
-    t: Target,
+    s: Stopped,
 ) -> Answer {
-    let o = folding::restore(g, record, j, m);
-    if let Ran::Stopped(_, at, r) = o {
-        if moves::tell(r).number == 16 {
-            return say_unapplied(page, p, record, r, at);
-        }
+    match s.refusal {
+        Refusal::NotApplied => say_unapplied(page, at, record, s.marking, s.refusal),
+        _ => course.say_stopped(page, s),
     }
-    say_ran(page, p, g, o, j, t)
 }
 
 // 7 comes before 10, so that the journal's length is asked for first.
 pub fn restore(
     page: &mut Page,
-    p: Places,
-    g: &Job,
-    m: Marking,
-    bytes: &[u8],
-    j: &[u8],
+    course: &Course,
+    record: Input,
     t: Target,
-) -> Answer {
-    let w = journal::walk_at(j, 0).said;
-    if let Walked::Refused(r) = w {
-        let refused = say_refused(page, p.journal, r);
-        finding::journals::say_found(page, j);
-        return refused;
+) -> Result<Answer, Complained> {
+    if !length_fits(course.journal.bytes) {
+        return Ok(say_unmeasured(page, course.journal));
     }
-    let o = spelling::read(g[0], bytes);
-    match o {
-        Recorded::Made(r) => restore_read(page, p, g, m, r, j, t),
-        Recorded::Refused(r) => say_ill_formed(page, p.record, g[0], bytes, r),
+    let g = course.job;
+    let read = match spelling::read(g[0], record.bytes) {
+        Ok(read) => read,
+        Err(r) => return Ok(say_ill_formed(page, g[0], record, r)),
+    };
+    match folding::restore(g, read, course.journal.bytes, course.start) {
+        Ok(end) => say_ended(page, g, end, t),
+        Err(stopped) => Ok(say_unrestored(page, course, record.at, read, stopped)),
     }
 }

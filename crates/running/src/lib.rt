@@ -2,6 +2,7 @@
 // the tracker.
 #![tactic(auto)]
 
+pub mod course;
 pub mod laps_told;
 pub mod listing;
 pub mod markings;

@@ -1,33 +1,21 @@
 // A journal in words.
-use crate::runs::say_entry_at;
-use journal::Walked;
-use lines::refusals::say_refused;
-use lines::say::say_count;
+use crate::course::{Input, say_unmeasured};
+use journal::inner::{entry_at, length_fits};
+use lines::states::Stated;
 use output::page::Page;
 use output::status::Answer;
+use std::convert::From;
 
-// A journal has at most 21,845 entries.
-const MOST: u16 = 21845;
-
-fn say_entries(page: &mut Page, j: &[u8], count: usize) {
-    for k in 0..MOST {
-        if count <= k as usize {
-            return;
-        }
-        say_entry_at(page, j, k);
+// Refusal 7.
+pub fn entries(page: &mut Page, journal: Input) -> Answer {
+    if !length_fits(journal.bytes) {
+        return say_unmeasured(page, journal);
     }
-}
-
-// `at` names the journal. Refusal 7.
-pub fn entries(page: &mut Page, j: &[u8], at: usize) -> Answer {
-    let w = journal::walk_at(j, 0).said;
-    if let Walked::Refused(r) = w {
-        let refused = say_refused(page, at, r);
-        finding::journals::say_found(page, j);
-        return refused;
+    let count = journal.bytes.len() / 3;
+    writeln!(page, "entries: {count}");
+    for k in 0..count {
+        let e = entry_at(journal.bytes, k);
+        writeln!(page, "entry {k}: {}", Stated::from(e));
     }
-    let count = j.len() / 3;
-    say_count(page, b"entries", count as u64);
-    say_entries(page, j, count);
     Answer::Answered
 }

@@ -1,125 +1,80 @@
 // The tracker, entry by entry.
-use crate::runs::say_unstarted;
-use journal::Walked;
-use lines::places::{Places, place_of};
-use lines::refusals::{say_refused, say_waited};
-use lines::say::{say, say_count, say_flag, say_number};
-use lines::states::{say_entry, say_marking};
-use moves::{Entry, Marking, Refusal};
+use crate::course::{Course, say_unmeasured};
+use journal::inner::{entry_at, length_fits};
+use lines::display::Flag;
+use lines::refusals::say_waited;
+use lines::states::{Stated, say_marking};
+use moves::Entry;
 use output::page::Page;
 use output::status::Answer;
-use rules::Job;
-use tracker::{Track, Tracked};
-
-// A state, whether the track goes on from it, and whether an entry was refused there.
-#[derive(Clone, Copy)]
-struct Going {
-    track: Track,
-    on: bool,
-    refused: bool,
-}
+use std::convert::From;
+use tracker::{Track, Unmoved};
 
 fn say_place(page: &mut Page, t: Track) {
-    say(page, b"rank ");
-    say_number(page, t.rank.0 as u64);
-    say(page, b", flag ");
-    say_flag(page, t.flag);
-    say(page, b"\n");
+    writeln!(page, "rank {}, flag {}", t.rank.0, Flag(t.flag));
 }
 
-fn say_stays(page: &mut Page, p: Places, g: &Job, k: usize, e: Entry, r: Refusal, t: Track) {
-    say_refused(page, place_of(p, r), r);
-    finding::entries::say_found(page, g, e, moves::tell(r));
-    say_entry(page, k as u64, e);
-    say(page, b"\n");
-    say_waited(page, r);
-    say_count(page, b"rank", t.rank.0 as u64);
-    say(page, b"flag: ");
-    say_flag(page, t.flag);
-    say(page, b"\n");
-}
-
-fn goes(t: Track) -> Going {
-    Going {
-        track: t,
-        on: true,
-        refused: false,
-    }
-}
-
-fn halts(t: Track, refused: bool) -> Going {
-    Going {
-        track: t,
-        on: false,
-        refused: refused,
-    }
-}
-
-// Entry k, from a state.
-fn advanced(page: &mut Page, p: Places, g: &Job, t: Track, k: usize, e: Entry) -> Going {
-    let o = tracker::advance(g, t, e);
-    match o {
-        Tracked::At(next) => {
-            say_entry(page, k as u64, e);
-            say(page, b", ");
+// The state after entry k, which is e; or the one that stays, where it is refused.
+fn advanced(
+    page: &mut Page,
+    course: &Course,
+    t: Track,
+    k: usize,
+    e: Entry,
+) -> Result<Track, Track> {
+    match tracker::advance(course.job, t, e) {
+        Ok(next) => {
+            write!(page, "entry {k}: {}, ", Stated::from(e));
             say_place(page, next);
-            goes(next)
+            Ok(next)
         }
-        Tracked::Stays(before, r) => {
-            say_stays(page, p, g, k, e, r, before);
-            halts(before, true)
+        Err(Unmoved::Stays(before, r)) => {
+            course.say_refused(page, r);
+            course.say_met(page, e, r);
+            writeln!(page, "entry {k}: {}", Stated::from(e));
+            say_waited(page, r);
+            writeln!(page, "rank: {}", before.rank.0);
+            writeln!(page, "flag: {}", Flag(before.flag));
+            Err(before)
         }
-        Tracked::Refused(r) => {
-            say_refused(page, place_of(p, r), r);
-            halts(t, true)
+        Err(Unmoved::Refused(r)) => {
+            course.say_refused(page, r);
+            Err(t)
         }
     }
 }
 
-// The entry that the journal has at k, if it has one.
-fn onward(page: &mut Page, p: Places, g: &Job, t: Track, j: &[u8], k: usize) -> Going {
-    let w = journal::walk_at(j, k).said;
-    match w {
-        Walked::At(e) => advanced(page, p, g, t, k, e),
-        Walked::End => halts(t, false),
-        Walked::Refused(_) => halts(t, true),
+// The state after the journal; or the one that stays, where an entry is refused.
+fn follow(page: &mut Page, course: &Course, start: Track) -> Result<Track, Track> {
+    let journal = course.journal.bytes;
+    let mut t = start;
+    for k in 0..journal.len() / 3 {
+        t = advanced(page, course, t, k, entry_at(journal, k))?;
     }
+    Ok(t)
 }
 
-// A journal has at most 21,845 entries.
-fn follow(page: &mut Page, p: Places, g: &Job, start: Track, j: &[u8]) -> Going {
-    let mut at = goes(start);
-    for k in 0..21846 {
-        at = onward(page, p, g, at.track, j, k);
-        if !at.on {
-            return at;
+fn say_tracked(page: &mut Page, course: &Course, start: Track) -> Answer {
+    write!(page, "start: ");
+    say_place(page, start);
+    match follow(page, course, start) {
+        Ok(end) => {
+            say_marking(page, end.marking);
+            Answer::Answered
+        }
+        Err(end) => {
+            say_marking(page, end.marking);
+            Answer::Refused
         }
     }
-    at
 }
 
-fn say_tracked(page: &mut Page, p: Places, g: &Job, t: Track, j: &[u8]) -> Answer {
-    say(page, b"start: ");
-    say_place(page, t);
-    let end = follow(page, p, g, t, j);
-    say_marking(page, end.track.marking);
-    if end.refused {
-        return Answer::Refused;
+pub fn track(page: &mut Page, course: &Course) -> Answer {
+    if !length_fits(course.journal.bytes) {
+        return say_unmeasured(page, course.journal);
     }
-    Answer::Answered
-}
-
-pub fn track(page: &mut Page, p: Places, g: &Job, m: Marking, j: &[u8]) -> Answer {
-    let w = journal::walk_at(j, 0).said;
-    if let Walked::Refused(r) = w {
-        let refused = say_refused(page, p.journal, r);
-        finding::journals::say_found(page, j);
-        return refused;
-    }
-    let o = tracker::start(g, m);
-    match o {
-        Tracked::At(start) => say_tracked(page, p, g, start, j),
-        Tracked::Stays(_, r) => say_unstarted(page, place_of(p, r), g, m, r),
-        Tracked::Refused(r) => say_unstarted(page, place_of(p, r), g, m, r),
+    match tracker::start(course.job, course.start) {
+        Ok(start) => say_tracked(page, course, start),
+        Err(Unmoved::Refused(r) | Unmoved::Stays(_, r)) => course.say_unstarted(page, r),
     }
 }

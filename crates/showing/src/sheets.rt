@@ -1,17 +1,16 @@
 // Commands on a sheet alone.
 use crate::graphs::{say_actions, say_arrow_count, say_arrows, say_counts, say_people, say_steps};
+use files::complaints::Complained;
 use files::writing::{Target, front, store_to};
 use lines::refusals::say_refused;
-use lines::say::{say, say_wrote};
 use lines::states::say_ending;
 use moves::Marking;
 use output::page::Page;
 use output::status::Answer;
 use rules::Job;
-use sheet::Written;
 
 pub fn check(page: &mut Page, g: &Job) -> Answer {
-    say(page, b"sheet: ok\n");
+    writeln!(page, "sheet: ok");
     say_counts(page, g);
     say_arrow_count(page, g);
     Answer::Answered
@@ -28,20 +27,23 @@ pub fn show(page: &mut Page, g: &Job, m: Marking) -> Answer {
 }
 
 // The sheet to its file.
-pub fn keep(page: &mut Page, sheet: &[u8], t: Target) -> Answer {
-    if !store_to(&page.rt(), t, sheet) {
-        return Answer::Failed;
-    }
-    say_wrote(page, sheet.len() as u64);
-    Answer::Answered
+pub fn keep(page: &mut Page, sheet: &[u8], t: Target) -> Result<Answer, Complained> {
+    store_to(&page.rt(), t, sheet)?;
+    writeln!(page, "wrote: {} bytes", sheet.len());
+    Ok(Answer::Answered)
 }
 
 // The sheet of what was read; `at` names it.
-pub fn write(page: &mut Page, g: &Job, m: Marking, t: Target, at: usize) -> Answer {
+pub fn write(
+    page: &mut Page,
+    g: &Job,
+    m: Marking,
+    t: Target,
+    at: Option<usize>,
+) -> Result<Answer, Complained> {
     let mut room = [0u8; 65536];
-    let w = sheet::write(g, m, &mut room);
-    match w {
-        Written::Length(n) => keep(page, front(&room, n), t),
-        Written::Refused(r) => say_refused(page, at, r),
+    match sheet::write(g, m, &mut room) {
+        Ok(n) => keep(page, front(&room, n), t),
+        Err(r) => Ok(say_refused(page, at, r)),
     }
 }

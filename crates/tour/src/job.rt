@@ -1,9 +1,7 @@
 // The small sample job: after a reboot the order of the sensors is checked before anything is published.
 //
 // Steps: 0 reboot, 1 order check, 2 publish. Roles: 0 climber, 1 desk. Person 0 is a climber, person 1 sits at the desk.
-use lines::say::say;
 use moves::Marking;
-use output::page::Page;
 use rules::{ALLOWS, CONDITIONS, EXCLUDES, HOLDS, INCLUDES, Job, LABELS, RESPONSES, WORDS};
 
 pub const REBOOT: [u8; 3] = [0, 0, 0];
@@ -48,17 +46,17 @@ pub fn rewritten() -> Job {
     g
 }
 
-pub fn say_step_name(page: &mut Page, s: u8) {
+pub fn step_name(s: u8) -> &'static str {
     match s {
-        0 => say(page, b"reboot"),
-        1 => say(page, b"order check"),
-        _ => say(page, b"publish"),
+        0 => "reboot",
+        1 => "order check",
+        _ => "publish",
     }
 }
 
-pub fn say_role_name(page: &mut Page, r: u8) {
+pub fn role_name(r: u8) -> &'static str {
     match r {
-        0 => say(page, b"climber"),
-        _ => say(page, b"desk"),
+        0 => "climber",
+        _ => "desk",
     }
 }

@@ -1,109 +1,76 @@
 // The files of the sample job.
 use crate::job::{CHECK, DAY, PUBLISH, REBOOT, START};
-use files::complaints::{complain_error, complain_reason};
-use files::known::ended;
+use arrayvec::ArrayVec;
+use files::complaints::{Complained, complain_error};
+use files::known::path_of;
 use files::writing::{front, store};
 use lines::refusals::say_refused;
-use lines::say::{say, say_number};
 use output::page::Page;
 use rules::Job;
-use sheet::Written;
 use std::fs;
 use std::io::ErrorKind;
 
-// The text behind what the room holds already, as far as it fits; the place after it.
-fn add(text: &[u8], room: &mut [u8], at: usize) -> usize {
-    let mut to = at;
-    for b in text {
-        if room.len() <= to {
-            return to;
+// Room for the longest name of a folder and a part's name behind it.
+const PATH: usize = 8192;
+
+// The folder that the files go into; may a file that exists be written over?
+#[derive(Clone, Copy)]
+pub struct Folder<'a> {
+    pub name: &'a [u8],
+    pub force: bool,
+}
+
+impl Folder<'_> {
+    // The file into the folder. What does not fit the room is left out of its path.
+    fn store(self, page: &mut Page, name: &str, bytes: &[u8]) -> Result<(), Complained> {
+        let mut path: ArrayVec<u8, PATH> = ArrayVec::new();
+        for part in [self.name, b"/", name.as_bytes()] {
+            let _ = path.try_extend_from_slice(part);
         }
-        room[to] = *b;
-        to += 1;
+        store(&page.rt(), &path, self.force, bytes)?;
+        writeln!(page, "wrote: {name}, {} bytes", bytes.len());
+        Ok(())
     }
-    to
-}
 
-// Was the file written into the folder?
-fn store_part(page: &mut Page, folder: &[u8], name: &[u8], force: bool, bytes: &[u8]) -> bool {
-    let mut path = [0u8; 8192];
-    let a = add(folder, &mut path, 0);
-    let b = add(b"/", &mut path, a);
-    let c = add(name, &mut path, b);
-    if !store(&page.rt(), front(&path, c), force, bytes) {
-        return false;
-    }
-    say(page, b"wrote: ");
-    say(page, name);
-    say(page, b", ");
-    say_number(page, bytes.len() as u64);
-    say(page, b" bytes\n");
-    true
-}
-
-fn store_sheet(page: &mut Page, g: &Job, folder: &[u8], force: bool) -> bool {
-    let mut room = [0u8; 128];
-    let o = sheet::write(g, START, &mut room);
-    match o {
-        Written::Length(n) => store_part(page, folder, b"job.sheet", force, front(&room, n)),
-        Written::Refused(r) => {
-            say_refused(page, 0, r);
-            false
+    fn store_sheet(self, page: &mut Page, g: &Job) -> Result<(), Complained> {
+        let mut room = [0u8; 128];
+        match sheet::write(g, START, &mut room) {
+            Ok(n) => self.store(page, "job.sheet", front(&room, n)),
+            Err(r) => {
+                say_refused(page, None, r);
+                Err(Complained)
+            }
         }
     }
-}
 
-fn store_marking(page: &mut Page, folder: &[u8], force: bool) -> bool {
-    let mut room = [0u8; 24];
-    bodies::write_marking(START, &mut room, 0);
-    store_part(page, folder, b"start.marking", force, &room)
-}
+    fn store_marking(self, page: &mut Page) -> Result<(), Complained> {
+        let mut room = [0u8; 24];
+        bodies::write_marking(START, &mut room, 0);
+        self.store(page, "start.marking", &room)
+    }
 
-fn store_journals(page: &mut Page, folder: &[u8], force: bool) -> bool {
-    if !store_part(page, folder, b"reboot.journal", force, &REBOOT) {
-        return false;
+    fn store_journals(self, page: &mut Page) -> Result<(), Complained> {
+        self.store(page, "reboot.journal", &REBOOT)?;
+        self.store(page, "check.journal", &CHECK)?;
+        self.store(page, "publish.journal", &PUBLISH)?;
+        self.store(page, "day.journal", &DAY)?;
+        self.store(page, "empty.journal", b"")
     }
-    if !store_part(page, folder, b"check.journal", force, &CHECK) {
-        return false;
-    }
-    if !store_part(page, folder, b"publish.journal", force, &PUBLISH) {
-        return false;
-    }
-    if !store_part(page, folder, b"day.journal", force, &DAY) {
-        return false;
-    }
-    store_part(page, folder, b"empty.journal", force, b"")
-}
 
-// Is the folder there, or could it be made?
-fn has_folder(rt: &HostRuntime, folder: &[u8]) -> bool {
-    let path = match ended(folder) {
-        Ok(path) => path,
-        Err(error) => {
-            complain_reason(rt, folder, error);
-            return false;
-        }
-    };
-    match fs::create_dir(rt, path) {
-        Ok(()) => true,
-        Err(e) if e.kind() == ErrorKind::AlreadyExists => true,
-        Err(e) => {
-            complain_error(rt, folder, &e);
-            false
+    // It is there, or is made.
+    fn make(self, rt: &HostRuntime) -> Result<(), Complained> {
+        let made = path_of(self.name).and_then(|path| fs::create_dir(rt, path));
+        match made {
+            Ok(()) => Ok(()),
+            Err(e) if e.kind() == ErrorKind::AlreadyExists => Ok(()),
+            Err(e) => Err(complain_error(rt, self.name, &e)),
         }
     }
-}
 
-// Are all the files there? Else it was complained of.
-pub fn store_parts(page: &mut Page, g: &Job, folder: &[u8], force: bool) -> bool {
-    if !has_folder(&page.rt(), folder) {
-        return false;
+    pub fn store_parts(self, page: &mut Page, g: &Job) -> Result<(), Complained> {
+        self.make(&page.rt())?;
+        self.store_sheet(page, g)?;
+        self.store_marking(page)?;
+        self.store_journals(page)
     }
-    if !store_sheet(page, g, folder, force) {
-        return false;
-    }
-    if !store_marking(page, folder, force) {
-        return false;
-    }
-    store_journals(page, folder, force)
 }

@@ -1,14 +1,13 @@
 // The accident, step by step. The texts are ours; what is allowed, each marking and the record are the box's answers.
-use crate::job::{CHECK, PUBLISH, REBOOT, START, job, rewritten, say_role_name, say_step_name};
-use crate::parts::store_parts;
-use journal::Ran;
-use lines::refusals::{say_refused, say_told};
-use lines::say::{say, say_number};
+use crate::job::{CHECK, PUBLISH, REBOOT, START, job, rewritten, role_name, step_name};
+use crate::parts::Folder;
+use files::complaints::Complained;
+use lines::refusals::{Numbered, say_refused};
 use lines::states::{say_ending, say_marking, say_record};
-use moves::{Entry, Marking, Move, Step};
+use moves::{Entry, Marking, Step};
 use output::page::Page;
 use output::status::Answer;
-use records::{Record, Recorded};
+use records::Record;
 use reporting::ends::say_from;
 use reporting::search::MOST;
 use rules::Job;
@@ -19,56 +18,50 @@ fn say_state(page: &mut Page, g: &Job, m: Marking) {
 }
 
 fn say_wish(page: &mut Page, e: Entry) {
-    say(page, b"\nThe ");
-    say_role_name(page, e.role);
-    say(page, b" takes step ");
-    say_number(page, e.step.0 as u64);
-    say(page, b", ");
-    say_step_name(page, e.step.0);
-    say(page, b": ");
+    let Step(s) = e.step;
+    let who = role_name(e.role);
+    write!(page, "\nThe {who} takes step {s}, {}: ", step_name(s));
 }
 
 // Somebody wants to take a step. The marking after it, or the same where it is not allowed.
 fn tried(page: &mut Page, g: &Job, m: Marking, who: [u8; 3]) -> Marking {
+    let [person, step, role] = who;
     let e = Entry {
-        person: who[0],
-        step: Step(who[1]),
-        role: who[2],
+        person,
+        step: Step(step),
+        role,
     };
     say_wish(page, e);
-    let o = rules::take(g, m, e);
-    match o {
-        Move::Moved(next) => {
-            say(page, b"allowed\n");
+    match rules::take(g, m, e) {
+        Ok(next) => {
+            writeln!(page, "allowed");
             say_state(page, g, next);
             next
         }
-        Move::Refused(before, r) => {
-            say(page, b"not allowed: ");
-            say_told(page, moves::tell(r));
-            say(page, b"\n");
-            before
+        Err(denied) => {
+            writeln!(page, "not allowed: {}", Numbered(denied.refusal));
+            denied.marking
         }
     }
 }
 
 // Can the job still end from marking m, as the reboot has left it? And a job with a slip, after a reboot of its own?
 fn look_ahead(page: &mut Page, g: &Job, m: Marking) -> Answer {
-    say(
+    writeln!(
         page,
-        b"\nCan the job still end after the reboot, where only the check is due?\n",
+        "\nCan the job still end after the reboot, where only the check is due?"
     );
     say_from(page, g, m, MOST);
-    say(
+    writeln!(
         page,
-        b"\nThe office writes the job anew, and by a slip no role is left to the order check.\n",
+        "\nThe office writes the job anew, and by a slip no role is left to the order check."
     );
     let other = rewritten();
     let rebooted = tried(page, &other, START, REBOOT);
     say_from(page, &other, rebooted, MOST);
-    say(
+    writeln!(
         page,
-        b"The check is due, and nobody may do it: a dead end, found before anyone is on the mast.\n",
+        "The check is due, and nobody may do it: a dead end, found before anyone is on the mast."
     );
     Answer::Answered
 }
@@ -77,9 +70,10 @@ fn look_ahead(page: &mut Page, g: &Job, m: Marking) -> Answer {
 fn go_on(page: &mut Page, g: &Job, m: Marking) -> Answer {
     say_state(page, g, m);
     let still = tried(page, g, m, PUBLISH);
-    say(
+    write!(page, "The record has kept that the check is due. ");
+    writeln!(
         page,
-        b"The record has kept that the check is due. A box that started again from a shortened journal had lost it: the accident.\n",
+        "A box that started again from a shortened journal had lost it: the accident."
     );
     let checked = tried(page, g, still, CHECK);
     tried(page, g, checked, PUBLISH);
@@ -88,45 +82,46 @@ fn go_on(page: &mut Page, g: &Job, m: Marking) -> Answer {
 
 fn start_again(page: &mut Page, g: &Job, r: Record) -> Answer {
     say_record(page, r);
-    say(
+    writeln!(
         page,
-        b"\nThe cabinet forgets the journal and starts again from the record:\n",
+        "\nThe cabinet forgets the journal and starts again from the record:"
     );
-    let o = folding::restore(g, r, b"", START);
-    match o {
-        Ran::Ended(m, _) => go_on(page, g, m),
-        Ran::Stopped(_, _, refusal) => say_refused(page, 0, refusal),
+    match folding::restore(g, r, b"", START) {
+        Ok(end) => go_on(page, g, end.marking),
+        Err(stopped) => say_refused(page, None, stopped.refusal),
     }
 }
 
 fn say_walk(page: &mut Page, g: &Job) -> Answer {
-    say(
+    write!(
         page,
-        b"\nA job of three steps: 0 reboot, 1 order check, 2 publish. After a reboot the order of the sensors is checked\n",
+        "\nA job of three steps: 0 reboot, 1 order check, 2 publish. "
     );
-    say(
+    writeln!(page, "After a reboot the order of the sensors is checked");
+    write!(
         page,
-        b"before anything is published. Person 0 is a climber, role 0; person 1 sits at the desk, role 1. At the start:\n",
+        "before anything is published. Person 0 is a climber, "
+    );
+    writeln!(
+        page,
+        "role 0; person 1 sits at the desk, role 1. At the start:"
     );
     say_state(page, g, START);
     let rebooted = tried(page, g, START, REBOOT);
     tried(page, g, rebooted, PUBLISH);
-    say(
+    writeln!(
         page,
-        b"\nThe journal so far, one entry, is folded into a record of 65 bytes:\n",
+        "\nThe journal so far, one entry, is folded into a record of 65 bytes:"
     );
-    let o = folding::fold(g, &REBOOT);
-    match o {
-        Recorded::Made(r) => start_again(page, g, r),
-        Recorded::Refused(r) => say_refused(page, 0, r),
+    match folding::fold(g, &REBOOT) {
+        Ok(r) => start_again(page, g, r),
+        Err(r) => say_refused(page, None, r),
     }
 }
 
 // The files into the folder, then the walk.
-pub fn sample(page: &mut Page, folder: &[u8], force: bool) -> Answer {
+pub fn sample(page: &mut Page, folder: Folder) -> Result<Answer, Complained> {
     let g = job();
-    if !store_parts(page, &g, folder, force) {
-        return Answer::Failed;
-    }
-    say_walk(page, &g)
+    folder.store_parts(page, &g)?;
+    Ok(say_walk(page, &g))
 }

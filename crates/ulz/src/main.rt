@@ -4,8 +4,11 @@
 ghost use Rattle.std.specs.Prelude.{◌≡◌};
 ghost use Rattle.ulz.specs.Ends.{Ends, for_c};
 
-use files::arguments::{Call, PATH_MAX, argument};
+use commands::Command;
+use files::arguments::{Call, PATH_MAX, argument, called};
 use files::locking::lock_argument;
+use output::page::Page;
+use output::status::{Answer, ended};
 use std::process::ExitCode;
 
 // Neither answered nor refused.
@@ -24,17 +27,16 @@ fn for_c(status: u8) -> i32
     ELSE
 }
 
-// The journal that a call of `take` names, or 0; of a call that is wrong in its words nobody knows what it names.
-fn journal_to_take(rt: &HostRuntime, call: Call) -> usize {
-    if (call.count < 3) | (call.long != 0) | (call.option != 0) {
-        return 0;
+// The journal that a call of `take` names; of a call that is wrong in its words nobody knows what it names.
+fn journal_to_take(rt: &HostRuntime, call: &Call) -> Option<usize> {
+    if call.long.is_some() | call.unknown.is_some() {
+        return None;
     }
-    let at = call.at;
-    let mut word = [0u8; PATH_MAX];
-    let n = argument(rt, at[0], &mut word);
-    match &word[..n] {
-        b"take" => at[2],
-        _ => 0,
+    let mut room = [0u8; PATH_MAX];
+    let word = argument(rt, call.command()?, &mut room);
+    match Command::named(word)? {
+        Command::Take => call.operand(1),
+        _ => None,
     }
 }
 
@@ -42,16 +44,16 @@ fn journal_to_take(rt: &HostRuntime, call: Call) -> usize {
 pub fn ulz_program(rt: HostRuntime) -> i32
     ensures { Ends result }
 {
-    let mut page = output::page::blank(rt);
-    let call = files::arguments::called(&rt);
-    let a = obeying::calls::answer(&mut page, call);
-    for_c(output::status::ended(&mut page, call.status, a))
+    let mut page = Page::blank(rt);
+    let call = called(&rt);
+    let a = obeying::calls::answer(&mut page, &call).unwrap_or(Answer::Failed);
+    for_c(ended(&mut page, call.status, a))
 }
 
 // Two takes of one journal go one after the other, or both would be tested against the same journal, and the later one could put an
 // entry there that is not allowed any more. So a take locks the journal until the process ends.
 fn main(rt: HostRuntime) -> ExitCode {
-    let call = files::arguments::called(&rt);
-    let _locked = lock_argument(&rt, journal_to_take(&rt, call));
+    let call = called(&rt);
+    let _locked = lock_argument(&rt, journal_to_take(&rt, &call));
     ExitCode::from(ulz_program(rt) as u8)
 }
