@@ -44,16 +44,14 @@ fn show_marking(page: &mut Page, file: Input) -> Result<Answer, Complained> {
 
 // The file to write is the folder.
 fn sample(page: &mut Page, t: Target) -> Result<Answer, Complained> {
+    let force = t.force;
+    let Some(i) = t.at else {
+        let name = b"sample";
+        return tour::walk::sample(page, Folder { name, force });
+    };
     let mut room = [0u8; PATH_MAX];
-    let name = match t.at {
-        Some(i) => argument(&page.rt(), i, &mut room),
-        None => b"sample",
-    };
-    let folder = Folder {
-        name,
-        force: t.force,
-    };
-    tour::walk::sample(page, folder)
+    let name = argument(&page.rt(), i, &mut room);
+    tour::walk::sample(page, Folder { name, force })
 }
 
 // In the place of the file to write stands a command.
