@@ -115,8 +115,8 @@ fn from_rows<'a>(k: usize, conditions: &'a [u64], table: &'a [u64]) -> &'a [u64]
     &table[from..end]
 }
 
-// How many bytes do the arrows of the table take? What is asked of n, the conditions and the table (`Kept`) stands in `size` and `write` alone,
-// so it has no type of its own.
+// How many bytes do the arrows of the table take? What is asked of n, the conditions and the table (`Kept`) stands in `size` and `write`
+// alone, so it has no type of its own.
 pub fn size<'a>(n: u8, conditions: &'a [u64], table: &'a [u64]) -> usize
     requires { Kept n table.now × (length table.now ≡ 256) × (conditions.now ≡ turned_in n table.now) }
     ensures { result ≡ length (arrows_body table.now) }

@@ -47,8 +47,8 @@ pub struct Stop {
     pub next: usize,
 }
 
-// A run as far as it is read: where its next arrow would stand, and the least step below n that it may point at. Its arrows share the head,
-// their first two bytes.
+// A run as far as it is read: where its next arrow would stand, and the least step below n that it may point at. Its arrows share the
+// head, their first two bytes.
 #[derive(Drop)]
 struct Run<'a> {
     s: &'a [u8],

@@ -79,7 +79,8 @@ pub fn read_roles(body: &[u8], count: usize, block: &mut [u64], at: usize) -> us
     put_rows(|i| role_set(body, i) as u64, count, block, at)
 }
 
-// Is each action of the body one that there is?
+// Is each action of the body one that there is? All are tested, where `all` would stop at the first that is not: so the loop has no way
+// out and takes many bytes at once.
 pub fn actions_fit(body: &[u8], actions: u64) -> bool
     ensures { result ≡ actions_fit actions body.now }
 {

@@ -20,7 +20,6 @@ use Rattle.journal.specs.Run.{the_run}
 use Rattle.journal.specs.Laws.{entries_append}
 use Rattle.runs.specs.Runs.{Passes, passes_both, passes_within, ended_passes}
 use Rattle.records.specs.declared.Record.{Record}
-use Rattle.records.specs.Answers.{Recorded}
 use Rattle.folding.specs.Answers.{the_fold, the_restoring}
 use Rattle.folded.specs.Theorems.{restore_passes}
 use Rattle.cabinet.specs.Cabinet.{reboot, publish, cabinet, at_first, arms_fit}

@@ -10,6 +10,3 @@ returns-in_err-check-clause-value c =
     let a = c.args in
     let verdict = sym c.check.ensures ∙ c.in_err-check.was in
     handed c.from_residual.result _ c.from_residual.ensures.1 ∙ sym (choice_refused (graph_of a.g.now) a.m a.person _ verdict)
-
-pub choice_on-requires : goal.choice_on-requires
-choice_on-requires c = sym c.check.ensures ∙ c.in_ok-check.was

@@ -10,6 +10,3 @@ returns-in_err-check-clause-value c =
     let a = c.args in
     let verdict = sym c.check.ensures ∙ c.in_err-check.was in
     handed c.from_residual.result _ c.from_residual.ensures.1 ∙ sym (all_refused (graph_of a.g.now) a.m _ verdict)
-
-pub choice_of_all_on-requires : goal.choice_of_all_on-requires
-choice_of_all_on-requires c = sym c.check.ensures ∙ c.in_ok-check.was
