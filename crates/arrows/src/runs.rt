@@ -6,11 +6,22 @@ ghost use Rattle.arrows.specs.Rows.{toward};
 ghost use Rattle.arrows.specs.Loops.{passes, arrow_in};
 ghost use Rattle.arrows.specs.Runs.{pointed, Advances, Begins, Taken};
 
-#[derive(Clone, Copy)]
+use std::fmt;
+use std::fmt::Display;
+
+// In the order of a sheet: by kind, then from, then to.
+#[derive(Clone, Copy, Debug, PartialEq, Eq, PartialOrd, Ord)]
 pub struct Arrow {
     pub kind: u8,
     pub from: u8,
     pub to: u8,
+}
+
+impl Display for Arrow {
+    fn fmt<W: fmt::Write>(&self, f: &mut fmt::Formatter<W>) -> fmt::Result {
+        let Arrow { kind, from, to } = *self;
+        write!(f, "{kind} {from} {to}")
+    }
 }
 
 impl Arrow {

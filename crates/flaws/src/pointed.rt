@@ -1,24 +1,8 @@
 // Numbers 5 and 6 of a sheet: the first arrow that is wrong or out of order, and the first pair that both includes and excludes.
 use crate::said::{Body, Sheet};
+use arrows::runs::Arrow;
 use finding::words::{All, say_finding};
 use output::page::Page;
-use std::fmt;
-use std::fmt::Display;
-
-// In the order of a sheet: by kind, then from, then to.
-#[derive(Clone, Copy, Debug, PartialEq, Eq, PartialOrd, Ord)]
-struct Arrow {
-    kind: u8,
-    from: u8,
-    to: u8,
-}
-
-impl Display for Arrow {
-    fn fmt<W: fmt::Write>(&self, f: &mut fmt::Formatter<W>) -> fmt::Result {
-        let Arrow { kind, from, to } = *self;
-        write!(f, "{kind} {from} {to}")
-    }
-}
 
 // What is wrong with an arrow.
 #[derive(Clone, Copy)]

@@ -8,16 +8,13 @@ pub struct Set(pub u64);
 
 impl Display for Set {
     fn fmt<W: fmt::Write>(&self, f: &mut fmt::Formatter<W>) -> fmt::Result {
-        let Set(x) = *self;
-        if x == 0 {
+        let mut steps = sets::members(self.0);
+        let Some(first) = steps.next() else {
             return write!(f, "none");
-        }
-        let first = sets::lowest(x);
+        };
         write!(f, "{first}")?;
-        for s in 0..64 {
-            if (first < s) & sets::has(x, s) {
-                write!(f, " {s}")?;
-            }
+        for s in steps {
+            write!(f, " {s}")?;
         }
         Ok(())
     }

@@ -3,7 +3,5 @@
 
 pub mod display;
 pub mod names;
-pub mod places;
 pub mod refusals;
-pub mod say;
 pub mod states;

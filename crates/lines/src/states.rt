@@ -72,16 +72,3 @@ pub fn say_record(page: &mut Page, r: Record) {
     writeln!(page, "InSet, becomes included: {}", Set(r.inset));
     writeln!(page, "InClear, becomes excluded: {}", Set(r.inclear));
 }
-
-// The same as functions, for callers that have not gone over yet.
-pub fn as_stated(e: Entry) -> Stated {
-    Stated::from(e)
-}
-
-pub fn say_stated(page: &mut Page, k: u64, s: Stated) {
-    write!(page, "entry {k}: {s}");
-}
-
-pub fn say_entry(page: &mut Page, k: u64, e: Entry) {
-    say_stated(page, k, Stated::from(e));
-}

@@ -1,7 +1,8 @@
 // The page: what is printed and not yet written out. It is lent to whatever prints, so that a command makes few writes, and it
 // keeps whether one of them failed, so that nobody can overlook it. Whoever has it may also reach what the program was started with.
-ghost use Rattle.std.specs.Prelude.{◌≡◌, []};
+ghost use Rattle.std.specs.Prelude.{◌≡◌, [], true};
 ghost use Rattle.output.specs.Status.{is_whole};
+ghost use Rattle.output.specs.Text.{with_byte, Goes};
 
 use arrayvec::ArrayVec;
 use std::fmt;
@@ -19,7 +20,9 @@ pub struct Page {
 }
 
 impl Page {
-    pub fn blank(rt: HostRuntime) -> Page {
+    pub fn blank(rt: HostRuntime) -> Page
+        ensures { is_whole result ≡ true }
+    {
         Page {
             text: ArrayVec::new(),
             torn: false,
@@ -34,7 +37,8 @@ impl Page {
 
     // Behind a torn place nothing more is written.
     fn write_out(&mut self)
-        ensures { self.new.text.items ≡ [] }
+        ensures text { self.new.text.items ≡ [] }
+        ensures torn { self.old.torn ≡ true → self.new.torn ≡ true }
     {
         if !self.torn {
             self.torn = self.rt.stdout().write_all(&self.text).is_err();
@@ -42,7 +46,10 @@ impl Page {
         self.text.clear();
     }
 
-    pub fn put(&mut self, b: u8) {
+    pub fn put(&mut self, b: u8)
+        ensures text { self.new.text.items ≡ with_byte self.old.text.items b }
+        ensures torn { self.old.torn ≡ true → self.new.torn ≡ true }
+    {
         if self.text.try_push(b).is_err() {
             self.write_out();
             self.text.push(b);
@@ -56,7 +63,8 @@ impl Page {
 
     // Writes out what is left. Was everything written, now and before?
     pub fn flush(&mut self) -> bool
-        ensures { result ≡ is_whole self.new }
+        ensures whole { result ≡ is_whole self.new }
+        ensures torn { self.old.torn ≡ true → self.new.torn ≡ true }
     {
         self.write_out();
         !self.torn
@@ -69,30 +77,12 @@ impl Page {
 }
 
 impl Write for Page {
+    ghost write_str_gives = { Goes };
+
     fn write_str(&mut self, text: &str) -> fmt::Result {
         for b in text.as_bytes() {
             self.put(*b);
         }
         Ok(())
     }
-}
-
-// The same as functions, for callers that have not gone over to the methods.
-pub fn blank(rt: HostRuntime) -> Page {
-    Page::blank(rt)
-}
-
-pub fn put(page: &mut Page, b: u8) {
-    page.put(b);
-}
-
-pub fn say(page: &mut Page, text: &[u8]) {
-    for b in text {
-        page.put(*b);
-    }
-}
-
-pub fn complain_with(page: &mut Page) {
-    let _ = page.rt.stderr().write_all(&page.text);
-    page.text.clear();
 }
