@@ -1,7 +1,7 @@
 // Who may take which step now, and what keeps the others back: all people, or one of them.
 ghost use Rattle.std.specs.Prelude.{◌<◌};
 
-use crate::whom::{Shown, choice_of, shown_to};
+use crate::whom::{steps_held, steps_of, steps_to_each};
 use journal::Ended;
 use lines::display::Set;
 use lines::refusals::say_refused;
@@ -17,6 +17,18 @@ use running::course::Course;
 fn say_may(page: &mut Page, e: Entry) {
     let Step(s) = e.step;
     writeln!(page, "may: step {s}, person {}, role {}", e.person, e.role);
+}
+
+// What is shown of a job at a marking, of the person or of all: the steps that are allowed to them, those that they hold a role for, and
+// those that are allowed to each person.
+#[derive(Clone, Copy)]
+struct Shown<'a> {
+    job: &'a Job,
+    marking: Marking,
+    person: Option<u64>,
+    now: u64,
+    held: u64,
+    to: [u64; 16],
 }
 
 impl Shown<'_> {
@@ -44,19 +56,15 @@ impl Shown<'_> {
         }
     }
 
-    fn say_unheld(&self, page: &mut Page) {
-        match self.person {
-            None => writeln!(page, ", nobody holds a role that it has"),
-            Some(p) => writeln!(page, ", person {p} holds no role that it has"),
-        }
-    }
-
     // Whoever comes furthest is kept back by what the step waits for, or by its exclusion; else nobody comes as far.
     fn say_back(&self, page: &mut Page, s: u8)
         requires { s < 64 }
     {
         if !sets::has(self.held, s) {
-            self.say_unheld(page);
+            match self.person {
+                None => writeln!(page, ", nobody holds a role that it has"),
+                Some(p) => writeln!(page, ", person {p} holds no role that it has"),
+            }
         } else if !sets::has(self.marking.included, s) {
             writeln!(page, ", not included");
         } else {
@@ -83,14 +91,6 @@ impl Shown<'_> {
     }
 }
 
-fn say_shown(page: &mut Page, entries: u16, shown: Shown) -> Answer {
-    let m = shown.marking;
-    writeln!(page, "entries: {entries}");
-    say_marking(page, m);
-    shown.say_choices(page);
-    say_ending(page, rules::finished(shown.job, m), m)
-}
-
 // The person was named by the call, so that no file is; and there is no entry.
 fn say_nobody(page: &mut Page, g: &Job, m: Marking, person: Option<u64>, r: Refusal) -> Answer {
     let refused = say_refused(page, None, r);
@@ -104,11 +104,27 @@ fn say_nobody(page: &mut Page, g: &Job, m: Marking, person: Option<u64>, r: Refu
     refused
 }
 
-fn may_at(page: &mut Page, g: &Job, end: Ended, person: Option<u64>) -> Answer {
+// The steps `now` are what is allowed to them.
+fn say_shown(page: &mut Page, g: &Job, end: Ended, person: Option<u64>, now: u64) -> Answer {
     let m = end.marking;
-    match choice_of(g, m, person) {
-        Ok(now) => say_shown(page, end.entries, shown_to(g, m, person, now)),
-        Err(r) => say_nobody(page, g, m, person, r),
+    writeln!(page, "entries: {}", end.entries);
+    say_marking(page, m);
+    let shown = Shown {
+        job: g,
+        marking: m,
+        person,
+        now,
+        held: steps_held(g, person),
+        to: steps_to_each(g, m, person),
+    };
+    shown.say_choices(page);
+    say_ending(page, rules::finished(g, m), m)
+}
+
+fn may_at(page: &mut Page, g: &Job, end: Ended, person: Option<u64>) -> Answer {
+    match steps_of(g, end.marking, person) {
+        Ok(now) => say_shown(page, g, end, person, now),
+        Err(r) => say_nobody(page, g, end.marking, person, r),
     }
 }
 

@@ -5,7 +5,7 @@
 use events::Event;
 use events::Event::{Distrust, Give, Prescribe, Sign};
 use graphs::{START_A, START_B};
-use moves::{Denied, Marking};
+use moves::Marking;
 use output::page::Page;
 use rules::Job;
 use show::{say_marking, say_track};
@@ -24,14 +24,9 @@ fn act(page: &mut Page, g: &Job, m: Marking, e: Event) -> Marking {
             say_marking(page, g, next);
             next
         }
-        Err(
-            Denied {
-                marking: before,
-                ..
-            },
-        ) => {
+        Err(denied) => {
             writeln!(page, ": refused");
-            before
+            denied.marking
         }
     }
 }

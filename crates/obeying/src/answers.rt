@@ -44,16 +44,14 @@ fn show_marking(page: &mut Page, file: Input) -> Result<Answer, Complained> {
 
 // The file to write is the folder.
 fn sample(page: &mut Page, t: Target) -> Result<Answer, Complained> {
+    let force = t.force;
+    let Some(i) = t.at else {
+        let name = b"sample";
+        return tour::walk::sample(page, Folder { name, force });
+    };
     let mut room = [0u8; PATH_MAX];
-    let name = match t.at {
-        Some(i) => argument(&page.rt(), i, &mut room),
-        None => b"sample",
-    };
-    let folder = Folder {
-        name,
-        force: t.force,
-    };
-    tour::walk::sample(page, folder)
+    let name = argument(&page.rt(), i, &mut room);
+    tour::walk::sample(page, Folder { name, force })
 }
 
 // In the place of the file to write stands a command.
@@ -73,15 +71,16 @@ fn help(page: &mut Page, at: Option<usize>) -> Result<Answer, Complained> {
     }
 }
 
-// The marking of --from; none where the sheet's first is the start.
-fn named_start(rt: &HostRuntime, from: Input) -> Result<Option<Marking>, Complained> {
+// The marking of --from, if one is named.
+fn from_in(rt: &HostRuntime, from: Input) -> Result<Option<Marking>, Complained> {
     match from.at {
         Some(_) => Ok(Some(marking_in(rt, from)?)),
         None => Ok(None),
     }
 }
 
-// What is answered on a job, whose sheet is the first input, with that journal.
+// What is answered on a job, whose sheet is the first input, with that journal. It starts at the marking of --from, or at the sheet's
+// first.
 fn on_job<F: FnOnce(&mut Page, &Course) -> Result<Answer, Complained>>(
     page: &mut Page,
     inputs: &Inputs,
@@ -90,24 +89,24 @@ fn on_job<F: FnOnce(&mut Page, &Course) -> Result<Answer, Complained>>(
 ) -> Result<Answer, Complained>
     requires { F.IsAlwaysCallable answer }
 {
+    let from = from_in(&page.rt(), inputs.from)?;
     let sheet = inputs.first;
     let mut g = [0u64; WORDS];
-    let start = named_start(&page.rt(), inputs.from)?;
     match sheet::read(sheet.bytes, &mut g) {
-        Err(r) => {
-            let refused = say_refused(page, sheet.at, r);
-            flaws::sheets::say_found(page, sheet.bytes, r);
-            Ok(refused)
-        }
         Ok(first) => {
             let course = Course {
                 job: &g,
                 sheet: sheet.at,
-                start: start.unwrap_or(first),
+                start: from.unwrap_or(first),
                 from: inputs.from.at,
                 journal,
             };
             answer(page, &course)
+        }
+        Err(r) => {
+            let refused = say_refused(page, sheet.at, r);
+            flaws::sheets::say_found(page, sheet.bytes, r);
+            Ok(refused)
         }
     }
 }

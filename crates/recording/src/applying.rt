@@ -2,13 +2,14 @@
 use files::complaints::Complained;
 use files::writing::Target;
 use journal::Stopped;
+use journal::inner::length_fits;
 use lines::refusals::say_refused;
 use lines::states::say_marking;
-use moves::{Denied, Marking, Refusal};
+use moves::{Marking, Refusal};
 use output::page::Page;
 use output::status::Answer;
 use records::Record;
-use running::course::{Course, Input, measured, say_unmeasured};
+use running::course::{Course, Input, say_unmeasured};
 use running::markings::{keep_marking, say_kept};
 use running::runs::say_ended;
 
@@ -20,10 +21,16 @@ fn say_given(page: &mut Page, m: Marking, t: Target) -> Result<Answer, Complaine
 }
 
 // 16 gives back the marking that was handed in; argument `at` names the record.
-fn say_unapplied(page: &mut Page, at: Option<usize>, record: Record, denied: Denied) -> Answer {
-    let refused = say_refused(page, at, denied.refusal);
-    finding::recorded::say_unapplied(page, record, denied.marking);
-    say_marking(page, denied.marking);
+fn say_unapplied(
+    page: &mut Page,
+    at: Option<usize>,
+    record: Record,
+    m: Marking,
+    r: Refusal,
+) -> Answer {
+    let refused = say_refused(page, at, r);
+    finding::recorded::say_unapplied(page, record, m);
+    say_marking(page, m);
     refused
 }
 
@@ -44,7 +51,7 @@ fn apply_read(
     match spelling::read(n, record.bytes) {
         Ok(read) => match read.apply(m, n) {
             Ok(after) => say_given(page, after, t),
-            Err(denied) => Ok(say_unapplied(page, record.at, read, denied)),
+            Err(denied) => Ok(say_unapplied(page, record.at, read, denied.marking, denied.refusal)),
         },
         Err(r) => Ok(say_ill_formed(page, n, record, r)),
     }
@@ -90,15 +97,7 @@ fn say_unrestored(
     s: Stopped,
 ) -> Answer {
     match s.refusal {
-        Refusal::NotApplied => say_unapplied(
-            page,
-            at,
-            record,
-            Denied {
-                marking: s.marking,
-                refusal: s.refusal,
-            },
-        ),
+        Refusal::NotApplied => say_unapplied(page, at, record, s.marking, s.refusal),
         _ => course.say_stopped(page, s),
     }
 }
@@ -110,8 +109,8 @@ pub fn restore(
     record: Input,
     t: Target,
 ) -> Result<Answer, Complained> {
-    if let Err(r) = measured(course.journal) {
-        return Ok(say_unmeasured(page, course.journal, r));
+    if !length_fits(course.journal.bytes) {
+        return Ok(say_unmeasured(page, course.journal));
     }
     let g = course.job;
     let read = match spelling::read(g[0], record.bytes) {

@@ -71,7 +71,7 @@ pub fn join(
         Ok(before) => match spelling::read(n, second.bytes) {
             Err(r) => Ok(say_unread(page, n, second, r)),
             Ok(after) => match before.join(after, n) {
-                Ok(r) => keep_record(page, n, r, t),
+                Ok(joined) => keep_record(page, n, joined, t),
                 Err(r) => Ok(say_refused(page, None, r)),
             },
         },

@@ -50,7 +50,7 @@ fn say_because(page: &mut Page, course: &Course, s: Stopped) {
 pub fn say_never(page: &mut Page, course: &Course) -> Complained {
     writeln!(page, "never: yes");
     let furthest = Course {
-        start: all_done(course.job),
+        start: all_done(course.job[0].min(64)),
         ..*course
     };
     if let Err(stopped) = furthest.run() {

@@ -1,6 +1,7 @@
 // What the search came to.
 use crate::search::{MOST, searched};
 use deadend::Ends;
+use journal::Ended;
 use lines::refusals::say_refused;
 use lines::states::say_marking;
 use moves::{Marking, Refusal};
@@ -20,8 +21,8 @@ fn say_undecided(page: &mut Page, markings: u64, looked: u16) -> Answer {
     Answer::Unsure
 }
 
-fn say_ends(page: &mut Page, markings: u64, o: Ends) -> Answer {
-    match o {
+fn say_ends(page: &mut Page, markings: u64, ends: Ends) -> Answer {
+    match ends {
         Ends::Undecided(looked) => say_undecided(page, markings, looked),
         Ends::None(looked) => {
             writeln!(page, "can end: no\nlooked at: {looked}");
@@ -40,7 +41,7 @@ fn say_ends(page: &mut Page, markings: u64, o: Ends) -> Answer {
 // From marking m, with a store for that many markings.
 pub fn say_from(page: &mut Page, g: &Job, m: Marking, markings: u64) -> Answer {
     match searched(g, m, markings) {
-        Ok(o) => say_ends(page, markings, o),
+        Ok(ends) => say_ends(page, markings, ends),
         Err(r) => say_refused(page, None, r),
     }
 }
@@ -53,13 +54,14 @@ fn say_unsearched(page: &mut Page, m: Marking, markings: u64, r: Refusal) -> Ans
     refused
 }
 
-// From marking m, where a journal of that many entries has ended.
-pub fn say_after(page: &mut Page, g: &Job, m: Marking, entries: u16, markings: u64) -> Answer {
+// From where a journal has ended.
+pub fn say_after(page: &mut Page, g: &Job, end: Ended, markings: u64) -> Answer {
+    let m = end.marking;
     match searched(g, m, markings) {
-        Ok(o) => {
-            writeln!(page, "entries: {entries}");
+        Ok(ends) => {
+            writeln!(page, "entries: {}", end.entries);
             say_marking(page, m);
-            say_ends(page, markings, o)
+            say_ends(page, markings, ends)
         }
         Err(r) => say_unsearched(page, m, markings, r),
     }

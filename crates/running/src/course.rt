@@ -1,5 +1,11 @@
 // A job, the marking to start at and the journal that is run from there, with the arguments of the call that name them.
-use journal::{Ended, Stopped};
+ghost use Rattle.std.specs.Prelude.{◌≡◌, None};
+ghost use Rattle.std.specs.Result.{result_unwrap_or};
+ghost use Rattle.rules.specs.Graph.{graph_of};
+ghost use Rattle.journal.specs.Run.{the_run};
+ghost use Rattle.journal.specs.Walk.{stride_at};
+
+use journal::{Ended, Stopped, walk_at};
 use lines::refusals::{say_refused, say_waited};
 use lines::states::{Stated, say_marking};
 use moves::{Entry, Marking, Refusal};
@@ -25,22 +31,11 @@ pub struct Course<'a> {
     pub journal: Input<'a>,
 }
 
-// Has the journal the length of one? Refusal 7.
-pub fn measured(journal: Input) -> Result<(), Refusal> {
-    journal::walk_at(journal.bytes, 0).said?;
-    Ok(())
-}
-
 // A journal that has not the length of one.
-pub fn say_unmeasured(page: &mut Page, journal: Input, r: Refusal) -> Answer {
-    let refused = say_refused(page, journal.at, r);
+pub fn say_unmeasured(page: &mut Page, journal: Input) -> Answer {
+    let refused = say_refused(page, journal.at, Refusal::Length);
     finding::journals::say_found(page, journal.bytes);
     refused
-}
-
-// Entry k of a journal.
-pub fn entry_of(journal: Input, k: usize) -> Option<Entry> {
-    journal::walk_at(journal.bytes, k).said.ok()?
 }
 
 // Numbers 11 to 15.
@@ -56,12 +51,17 @@ fn is_of_entry(r: Refusal) -> bool {
 }
 
 impl Course<'_> {
-    pub fn run(&self) -> Result<Ended, Stopped> {
+    pub fn run(&self) -> Result<Ended, Stopped>
+        ensures { result ≡ the_run (graph_of self.now.job.now) self.now.start self.now.journal.bytes.now }
+    {
         journal::run(self.job, self.start, self.journal.bytes)
     }
 
-    pub fn entry(&self, k: usize) -> Option<Entry> {
-        entry_of(self.journal, k)
+    // Entry k of the journal, if it has so many.
+    pub fn entry(&self, k: usize) -> Option<Entry>
+        ensures { result ≡ result_unwrap_or (stride_at self.now.journal.bytes.now k).said None }
+    {
+        walk_at(self.journal.bytes, k).said.unwrap_or(None)
     }
 
     // The argument that names the input that a refusal of the job, of the marking or of the journal speaks of.
@@ -107,7 +107,7 @@ impl Course<'_> {
     // A refused run: below 11 no entry was looked at.
     pub fn say_stopped(&self, page: &mut Page, s: Stopped) -> Answer {
         match s.refusal {
-            Refusal::Length => say_unmeasured(page, self.journal, s.refusal),
+            Refusal::Length => say_unmeasured(page, self.journal),
             r if is_of_entry(r) => self.say_refused_at(page, s),
             r => self.say_refused(page, r),
         }

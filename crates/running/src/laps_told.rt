@@ -1,5 +1,6 @@
 // A stem, then a lap without end.
-use crate::course::{Course, Input, measured, say_unmeasured};
+use crate::course::{Course, Input, say_unmeasured};
+use journal::inner::length_fits;
 use laps::{Broken, Endless, Pass};
 use lines::refusals::{say_refused, say_waited};
 use lines::states::Stated;
@@ -18,10 +19,11 @@ fn words(p: Pass) -> &'static str {
 }
 
 // The stem's length is looked at first: where it is right, 7 is the lap's.
-fn say_lengths(page: &mut Page, stem: Input, lap: Input, r: Refusal) -> Answer {
-    match measured(stem) {
-        Ok(()) => say_unmeasured(page, lap, r),
-        Err(_) => say_unmeasured(page, stem, r),
+fn say_lengths(page: &mut Page, stem: Input, lap: Input) -> Answer {
+    if length_fits(stem.bytes) {
+        say_unmeasured(page, lap)
+    } else {
+        say_unmeasured(page, stem)
     }
 }
 
@@ -34,7 +36,7 @@ fn say_empty(page: &mut Page, lap: Input, r: Refusal) -> Answer {
 // Refused before any entry.
 fn say_unlapped(page: &mut Page, stem: &Course, lap: Input, r: Refusal) -> Answer {
     match r {
-        Refusal::Length => say_lengths(page, stem.journal, lap, r),
+        Refusal::Length => say_lengths(page, stem.journal, lap),
         Refusal::Outside => stem.say_unstarted(page, r),
         Refusal::EmptyLap => say_empty(page, lap, r),
         _ => stem.say_refused(page, r),

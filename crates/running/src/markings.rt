@@ -1,9 +1,12 @@
 // Markings as files of 24 bytes, and the one from which nothing is waited for.
+ghost use Rattle.std.specs.Prelude.{◌≡◌, ◌≤◌};
+ghost use Rattle.sets.specs.Sets.{full};
+
 use files::complaints::Complained;
 use files::writing::{Target, store_to};
-use moves::{Marking, NONE};
+use moves::Marking;
 use output::page::Page;
-use rules::Job;
+use sets::full;
 
 // The marking as body 2 of a sheet has it, to its file.
 pub fn keep_marking(page: &Page, t: Target, m: Marking) -> Result<(), Complained> {
@@ -19,12 +22,17 @@ pub fn say_kept(page: &mut Page, t: Target) {
     }
 }
 
-// All steps of the job are done and included: an entry is kept back only by what keeps it back from every marking.
-pub fn all_done(g: &Job) -> Marking {
-    let all = sets::full(g[0].min(64));
+// All n steps are done and included: an entry is kept back only by what keeps it back from every marking.
+pub fn all_done(n: u64) -> Marking
+    requires { n ≤ 64 }
+    ensures done { result.done ≡ full n }
+    ensures due { result.due ≡ 0 }
+    ensures included { result.included ≡ full n }
+{
+    let all = full(n);
     Marking {
         done: all,
+        due: 0,
         included: all,
-        ..NONE
     }
 }

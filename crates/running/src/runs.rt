@@ -38,7 +38,7 @@ pub fn finished(page: &mut Page, course: &Course) -> Answer {
 // Can the job still end after the journal? Looked for with a store for that many markings.
 pub fn ends(page: &mut Page, course: &Course, markings: u64) -> Answer {
     match course.run() {
-        Ok(end) => say_after(page, course.job, end.marking, end.entries, markings),
+        Ok(end) => say_after(page, course.job, end, markings),
         Err(stopped) => course.say_halted(page, stopped),
     }
 }

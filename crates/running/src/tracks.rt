@@ -1,8 +1,10 @@
 // The tracker, entry by entry.
-use crate::course::{Course, measured, say_unmeasured};
+use crate::course::{Course, say_unmeasured};
+use journal::inner::{entry_at, length_fits};
 use lines::display::Flag;
 use lines::refusals::say_waited;
 use lines::states::{Stated, say_marking};
+use moves::Entry;
 use output::page::Page;
 use output::status::Answer;
 use std::convert::From;
@@ -12,11 +14,14 @@ fn say_place(page: &mut Page, t: Track) {
     writeln!(page, "rank {}, flag {}", t.rank.0, Flag(t.flag));
 }
 
-// The state after entry k; or the one that stays, where the entry is refused.
-fn advanced(page: &mut Page, course: &Course, t: Track, k: usize) -> Result<Track, Track> {
-    let Some(e) = course.entry(k) else {
-        return Ok(t);
-    };
+// The state after entry k, which is e; or the one that stays, where it is refused.
+fn advanced(
+    page: &mut Page,
+    course: &Course,
+    t: Track,
+    k: usize,
+    e: Entry,
+) -> Result<Track, Track> {
     match tracker::advance(course.job, t, e) {
         Ok(next) => {
             write!(page, "entry {k}: {}, ", Stated::from(e));
@@ -41,9 +46,10 @@ fn advanced(page: &mut Page, course: &Course, t: Track, k: usize) -> Result<Trac
 
 // The state after the journal; or the one that stays, where an entry is refused.
 fn follow(page: &mut Page, course: &Course, start: Track) -> Result<Track, Track> {
+    let journal = course.journal.bytes;
     let mut t = start;
-    for k in 0..course.journal.bytes.len() / 3 {
-        t = advanced(page, course, t, k)?;
+    for k in 0..journal.len() / 3 {
+        t = advanced(page, course, t, k, entry_at(journal, k))?;
     }
     Ok(t)
 }
@@ -64,11 +70,11 @@ fn say_tracked(page: &mut Page, course: &Course, start: Track) -> Answer {
 }
 
 pub fn track(page: &mut Page, course: &Course) -> Answer {
-    if let Err(r) = measured(course.journal) {
-        return say_unmeasured(page, course.journal, r);
+    if !length_fits(course.journal.bytes) {
+        return say_unmeasured(page, course.journal);
     }
     match tracker::start(course.job, course.start) {
         Ok(start) => say_tracked(page, course, start),
-        Err(Unmoved::Stays(_, r) | Unmoved::Refused(r)) => course.say_unstarted(page, r),
+        Err(Unmoved::Refused(r) | Unmoved::Stays(_, r)) => course.say_unstarted(page, r),
     }
 }

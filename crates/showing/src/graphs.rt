@@ -1,5 +1,5 @@
 // A graph, line by line.
-ghost use Rattle.std.specs.Prelude.{◌<◌, ◌≤◌};
+ghost use Rattle.std.specs.Prelude.{◌<◌};
 
 use lines::display::Set;
 use moves::Marking;
@@ -13,19 +13,9 @@ pub fn say_counts(page: &mut Page, g: &Job) {
     writeln!(page, "actions: {}", g[3]);
 }
 
-// How many steps a row names: no more than there are bits in a word.
-fn named(x: u64) -> u64
-    ensures { result ≤ 64 }
-{
-    (u64::count_ones(x) % 65) as u64
-}
-
-// The four tables of arrows stand one behind the other.
+// The four tables of arrows stand one behind the other, and a row names the steps that it points at.
 pub fn say_arrow_count(page: &mut Page, g: &Job) {
-    let mut total = 0;
-    for x in &g[CONDITIONS..ALLOWS] {
-        total += named(*x);
-    }
+    let total: u32 = g[CONDITIONS..ALLOWS].iter().map(|x| x.count_ones()).sum();
     writeln!(page, "arrows: {total}");
 }
 

@@ -2,10 +2,9 @@
 use crate::job::{CHECK, PUBLISH, REBOOT, START, job, rewritten, role_name, step_name};
 use crate::parts::Folder;
 use files::complaints::Complained;
-use journal::Stopped;
 use lines::refusals::{Numbered, say_refused};
 use lines::states::{say_ending, say_marking, say_record};
-use moves::{Denied, Entry, Marking, Step};
+use moves::{Entry, Marking, Step};
 use output::page::Page;
 use output::status::Answer;
 use records::Record;
@@ -39,9 +38,9 @@ fn tried(page: &mut Page, g: &Job, m: Marking, who: [u8; 3]) -> Marking {
             say_state(page, g, next);
             next
         }
-        Err(Denied { marking, refusal }) => {
-            writeln!(page, "not allowed: {}", Numbered(refusal));
-            marking
+        Err(denied) => {
+            writeln!(page, "not allowed: {}", Numbered(denied.refusal));
+            denied.marking
         }
     }
 }
@@ -89,7 +88,7 @@ fn start_again(page: &mut Page, g: &Job, r: Record) -> Answer {
     );
     match folding::restore(g, r, b"", START) {
         Ok(end) => go_on(page, g, end.marking),
-        Err(Stopped { refusal, .. }) => say_refused(page, None, refusal),
+        Err(stopped) => say_refused(page, None, stopped.refusal),
     }
 }
 
