@@ -121,7 +121,11 @@ fn say_sets(page: &mut Page, n: u64, s: &[u8]) {
     if 64 < n {
         return;
     }
-    let held_though_never = if byte(s, 0) == 1 { first_beyond(s, 0) } else { None };
+    let held_though_never = if byte(s, 0) == 1 {
+        first_beyond(s, 0)
+    } else {
+        None
+    };
     if let Some(held) = held_though_never {
         say_finding(
             page,
