@@ -24,11 +24,12 @@ pub fn say_counts(page: &mut Page, sheet: Sheet) {
     }
 }
 
-// The bytes that a body has and should have, which are so many for each of a count.
-fn say_size(page: &mut Page, body: u8, size: usize, wants: usize, many: &str, of: All) {
+// A body should have so many bytes for each of a count.
+fn say_size(page: &mut Page, sheet: Sheet, body: Body, wants: usize, many: &str, of: All) {
+    let size = sheet.size(body);
     say_finding(
         page,
-        format_args!("body {body} has {size} bytes"),
+        format_args!("{body} has {size} bytes"),
         format_args!("{wants}, {many} for each of the {of}"),
     );
 }
@@ -37,16 +38,21 @@ pub fn say_sizes(page: &mut Page, sheet: Sheet) {
     let actions = sheet.actions();
     let people = sheet.people();
     let steps = sheet.steps();
-    let allows = sheet.size(Body::Allows);
-    let holds = sheet.size(Body::Holds);
-    if allows != 2 * actions {
+    if sheet.size(Body::Allows) != 2 * actions {
         let of = if sheet.is_five() { "steps" } else { "actions" };
-        say_size(page, 3, allows, 2 * actions, "two", All(of, actions as u64));
-    } else if holds != 2 * people {
         say_size(
             page,
-            4,
-            holds,
+            sheet,
+            Body::Allows,
+            2 * actions,
+            "two",
+            All(of, actions as u64),
+        );
+    } else if sheet.size(Body::Holds) != 2 * people {
+        say_size(
+            page,
+            sheet,
+            Body::Holds,
             2 * people,
             "two",
             All("people", people as u64),
@@ -54,8 +60,8 @@ pub fn say_sizes(page: &mut Page, sheet: Sheet) {
     } else {
         say_size(
             page,
-            6,
-            sheet.size(Body::Actions),
+            sheet,
+            Body::Actions,
             steps,
             "one",
             All("steps", steps as u64),

@@ -1,8 +1,10 @@
 // What a sheet says of itself: nothing is asked of it first, and what lies past its end reads as 0.
-ghost use Rattle.std.specs.Prelude.{◌<◌};
+ghost use Rattle.std.specs.Prelude.{◌<◌, ◌≤◌};
 
 use finding::parts::{byte, eight, two};
 use moves::Marking;
+use std::fmt;
+use std::fmt::Display;
 
 // The bodies, in the order of the contents.
 #[derive(Clone, Copy, Debug, PartialEq, Eq)]
@@ -15,23 +17,31 @@ pub enum Body {
     Actions,
 }
 
+impl Body {
+    // Its number in the contents.
+    fn number(self) -> usize
+        ensures { (1 ≤ result) × (result ≤ 6) }
+    {
+        match self {
+            Body::Counts => 1,
+            Body::Marking => 2,
+            Body::Allows => 3,
+            Body::Holds => 4,
+            Body::Arrows => 5,
+            Body::Actions => 6,
+        }
+    }
+}
+
+impl Display for Body {
+    fn fmt<W: fmt::Write>(&self, f: &mut fmt::Formatter<W>) -> fmt::Result {
+        write!(f, "body {}", self.number())
+    }
+}
+
 // A sheet that is refused.
 #[derive(Clone, Copy)]
 pub struct Sheet<'a>(pub &'a [u8]);
-
-// Where its line of the contents stands.
-fn line(body: Body) -> usize
-    ensures { result < 27 }
-{
-    match body {
-        Body::Counts => 1,
-        Body::Marking => 6,
-        Body::Allows => 11,
-        Body::Holds => 16,
-        Body::Arrows => 21,
-        Body::Actions => 26,
-    }
-}
 
 impl<'a> Sheet<'a> {
     // Has the sheet no body with the actions of the steps? Then body 3 has the roles of steps, and there are as many actions as steps.
@@ -43,13 +53,13 @@ impl<'a> Sheet<'a> {
     pub fn begins(self, body: Body) -> usize
         ensures { result < 65536 }
     {
-        two(self.0, line(body) + 1)
+        two(self.0, 5 * body.number() - 3)
     }
 
     pub fn size(self, body: Body) -> usize
         ensures { result < 65536 }
     {
-        two(self.0, line(body) + 3)
+        two(self.0, 5 * body.number() - 1)
     }
 
     // The bytes of a body; none where they are not all there.
