@@ -15,7 +15,10 @@ pub fn say_counts(page: &mut Page, g: &Job) {
 
 // The four tables of arrows stand one behind the other, and a row names the steps that it points at.
 pub fn say_arrow_count(page: &mut Page, g: &Job) {
-    let total: u32 = g[CONDITIONS..ALLOWS].iter().map(|x| x.count_ones()).sum();
+    let mut total = 0;
+    for x in &g[CONDITIONS..ALLOWS] {
+        total += x.count_ones();
+    }
     writeln!(page, "arrows: {total}");
 }
 
