@@ -7,7 +7,8 @@ use crate::told::said;
 use moves::Refusal;
 use records::Record;
 
-// What stands in for bytes or words that spell no record: never is on beside a set, so that it is well-formed for no n.
+// What stands in for bytes or words that spell no record: never is on beside a set, so that it is well-formed for no n. It is a
+// record and no `None`: `record_in` and `record_of`, which stand in the border's clauses, answer one.
 const SPOILT: Record = Record {
     never: true,
     needin: 1,
@@ -52,6 +53,7 @@ pub fn record_of(words: &[u64; 9]) -> Record
     }
 }
 
+// A function for each memory, and not one with a closure: the `match` is all that they share, and each has its own clause.
 pub fn spell(o: Result<Record, Refusal>, bytes: &mut [u8; 65]) -> u64
     ensures value { result ≡ number_of_recorded o }
     ensures bytes_after { bytes.new ≡ bytes_out o bytes.old }

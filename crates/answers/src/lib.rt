@@ -1,5 +1,6 @@
-// The answers to the calls of the border, as structs of words. A number is 0 where a call is answered. With 15 `waiting` is the set
-// of all steps that are waited for, and with every other number 0. What a number leaves without a value is 0.
+// The answers to the calls of the border, as structs of words, since C has no enum that holds something. A number is 0 where a call is
+// answered. With 15 `waiting` is the set of all steps that are waited for, and with every other number 0. What a number leaves without a
+// value is 0.
 #![tactic(auto)]
 
 use moves::{Entry, Marking};

@@ -20,14 +20,15 @@ const NOBODY: Entry = Entry {
     role: 0,
 };
 
-// What a refusal says, in words.
+// What a refusal says, in words: `Told` has a byte for the number.
 #[derive(Clone, Copy)]
 pub struct Words {
     pub number: u64,
     pub waiting: u64,
 }
 
-// The answers are told by functions, not by `From`: `moved` and `applied` go from one type to another and say different things.
+// The answers are told by functions and not by `From`: `moved` and `applied`, and `verdict` and `asked`, go from one and the same type and
+// say different things, and one way to tell is plainer than two.
 pub fn said(r: Refusal) -> Words
     ensures number_value { result.number ≡ number_of r }
     ensures waiting_value { result.waiting ≡ waiting_of r }

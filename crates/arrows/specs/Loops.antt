@@ -1,5 +1,5 @@
 -- What the loops over arrows carry: for each, what is left to do and the law for one turn more. Assumes nothing.
-use Prim.Native.Nat.{ℕ, zero, suc, ◌+◌, ◌*◌, ◌≤◌, ◌<◌}
+use Prim.Native.Nat.{ℕ, zero, suc, ◌+◌, ◌*◌, ◌^◌, ◌≤◌, ◌<◌}
 use Rattle.std.specs.Prelude.{◌≡◌, refl, Bool, true, false, ◌&&◌, get_or, set, drop, leb}
 use Rattle.std.proofs.Math.Path.{sym, ap}
 use Rattle.std.proofs.Common.{◌∙◌, subst, add-one, arith, drop_of_length-le, drop-cons}
@@ -8,7 +8,9 @@ use Rattle.std.proofs.Math.Bool.{cond}
 use Rattle.std.proofs.Math.ListN.{length, length-set}
 use Rattle.std.proofs.lemmas.List.{length-map}
 use Rattle.std.proofs.Math.Seq.{sets}
-use Rattle.sets.specs.Sets.{has, single, union}
+use Rattle.sets.specs.Sets.{has, single, union, lowest}
+use Rattle.sets.specs.Later.{later}
+use Rattle.sets.specs.Members.{members_later, members_none}
 use Rattle.sets.specs.Truth.{and_left, and_right}
 use Rattle.tables.specs.Tables.{row}
 use Rattle.numbers.specs.Numbers.{Spliced}
@@ -106,6 +108,20 @@ module _ (n : ℕ) (s table₀ : List ℕ) (next i : ℕ) (table : List ℕ) (r 
   )
 
 -- ---- writing
+
+-- the lowest step of a row, and the rest of the row
+pub row_more : (k a x : ℕ) → x < 2 ^ 64 → (x ≡ 0 → ⊥) → row_arrows k a x ≡ toward k a (lowest 64 x) ∷ row_arrows k a (later x)
+row_more k a x small some = ap (map (toward k a)) (members_later x small some)
+
+pub row_none : (k a x : ℕ) → x ≡ 0 → row_arrows k a x ≡ []
+row_none k a x e = ap (row_arrows k a) e ∙ ap (map (toward k a)) members_none
+
+-- one step fewer
+pub members_less : (x : ℕ) → x < 2 ^ 64 → (x ≡ 0 → ⊥) → length (members x) ≡ suc (length (members (later x)))
+members_less x small some = ap length (members_later x small some)
+
+pub members_nil : (x : ℕ) → x ≡ 0 → length (members x) ≡ 0
+members_nil x e = ap (λ (y : ℕ). length (members y)) e ∙ ap length members_none
 
 sets_three : (l v : List ℕ) (i a b c : ℕ) → sets l i (a ∷ b ∷ c ∷ v) ≡ sets (set (set (set l i a) (i + 1) b) (i + 2) c) (i + 3) v
 sets_three l v i a b c =

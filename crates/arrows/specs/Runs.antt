@@ -75,6 +75,11 @@ pub record Taken (n : ℕ) (s : List ℕ) (at : ℕ) (old : List ℕ) (i next : 
   pub reached : Reached s at i
   pub puts : Puts n s at old next i table
 
+-- the same, not put yet: its arrows are the steps of one row, whatever the table
+pub record Collected (n : ℕ) (s : List ℕ) (at i next steps : ℕ) : Type 0 where
+  pub reached : Reached s at i
+  pub puts : (old : List ℕ) → Puts n s at old next i (pointed old (source_row (arrow_in s at)) steps)
+
 -- an arrow that passes begins a run
 pub begins : (n next : ℕ) (s : List ℕ) (at : ℕ) → n ≤ 64 → length s % 3 ≡ 0 → at % 3 ≡ 0 → at < length s
     → passes n next (arrow_in s at) ≡ true → Begins n s at
@@ -93,6 +98,11 @@ begins n next s at few whole starts inside e =
       from_in = ltb-true (get_or s (at + 1) 0) n (and_right k a two);
       to_in = ltb-true (get_or s (at + 2) 0) n (and_right (k && a) b all);
     }
+
+-- a run that is collected is taken once its steps stand in their row
+pub collected_taken : {n : ℕ} {s : List ℕ} {at i next steps : ℕ} {table : List ℕ} (old : List ℕ) → Collected n s at i next steps
+    → table ≡ pointed old (source_row (arrow_in s at)) steps → Taken n s at old i next table
+collected_taken old c e = record { reached = c.reached; puts = rw e (c.puts old) }
 
 -- an arrow that passes, taken with the run that it begins, leaves what is behind the run to read
 pub reading_run : {n : ℕ} {s start : List ℕ} {next i : ℕ} {table : List ℕ} {j least : ℕ} {new : List ℕ} → Reading n s start next i table
@@ -198,13 +208,19 @@ module _ (n : ℕ) (s : List ℕ) (at : ℕ) (b : Begins n s at) (e : (arrow_in 
   wait_first table g =
       puts_first n s at b old table (wait_put old (arrow_in s at) e ∙ ap (pointed old (get_or s (at + 2) 0)) (sym f) ∙ sym g)
 
-  pub wait_more : (r t : Run) (x : ℕ) (table new : List ℕ) → Bytes s → Under n s at r → Advances r (Some x) t → new ≡ pointed table x one
+  pub wait_more : (i least : ℕ) (table new : List ℕ) → On n s at i least → new ≡ pointed table (get_or s (i + 2) 0) one
+      → Puts n s at old (base s at + least) i table → Puts n s at old (base s at + (get_or s (i + 2) 0 + 1)) (i + 3) new
+  wait_more i least table new o g =
+      puts_more n s at b old i least table new o
+      (wait_put table (arrow_in s i) (o.kinds ∙ e) ∙ ap (pointed table (get_or s (i + 2) 0)) (ap single o.froms ∙ sym f) ∙ sym g)
+
+  -- the same of a run on its way
+  pub wait_onward : (r t : Run) (x : ℕ) (table new : List ℕ) → Bytes s → Under n s at r → Advances r (Some x) t → new ≡ pointed table x one
       → Puts n s at old (base s at + r.least) r.at table → Puts n s at old (base s at + t.least) t.at new
-  wait_more r t x table new bytes u a g =
+  wait_onward r t x table new bytes u a g =
       let o : On n s at r.at r.least = under_on n s at b r t x bytes u a in
       let step : x ≡ get_or s (r.at + 2) 0 = rw (← u.text) a.1 in
-      rw (a.2, step) (puts_more n s at b old r.at r.least table new o
-      (wait_put table (arrow_in s r.at) (o.kinds ∙ e) ∙ ap₂ (pointed table) (sym step) (ap single o.froms ∙ sym f) ∙ sym g))
+      rw (a.2, step) (wait_more r.at r.least table new o (g ∙ ap (λ (y : ℕ). pointed table y one) step))
 
 -- ---- the other kinds: all of a run stand in one row
 
@@ -234,17 +250,21 @@ module _ (n : ℕ) (s : List ℕ) (at : ℕ) (b : Begins n s at) (e : 0 < (arrow
   pub point_first : Puts n s at old (base s at + (get_or s (at + 2) 0 + 1)) (at + 3) (gathered (single (get_or s (at + 2) 0)))
   point_first = puts_first n s at b old _ (point_put old (arrow_in s at) e)
 
-  pub point_more : (r t : Run) (x steps : ℕ) → Bytes s → Under n s at r → Advances r (Some x) t
+  pub point_more : (i least steps : ℕ) → On n s at i least → Puts n s at old (base s at + least) i (gathered steps)
+      → Puts n s at old (base s at + (get_or s (i + 2) 0 + 1)) (i + 3) (gathered (union steps (single (get_or s (i + 2) 0))))
+  point_more i least steps o =
+      let some : 0 < get_or s i 0 = omega arith in
+      let one : source_row (arrow_in s i) ≡ source_row (arrow_in s at) = omega arith in
+      puts_more n s at b old i least (gathered steps) _ o
+      (point_put (gathered steps) (arrow_in s i) some
+      ∙ ap (λ (j : ℕ). pointed (gathered steps) j (single (get_or s (i + 2) 0))) one
+      ∙ point_twice old (source_row (arrow_in s at)) steps (single (get_or s (i + 2) 0)))
+
+  -- the same of a run on its way
+  pub point_onward : (r t : Run) (x steps : ℕ) → Bytes s → Under n s at r → Advances r (Some x) t
       → Puts n s at old (base s at + r.least) r.at (gathered steps)
       → Puts n s at old (base s at + t.least) t.at (gathered (union steps (single x)))
-  point_more r t x steps bytes u a =
+  point_onward r t x steps bytes u a =
       let o : On n s at r.at r.least = under_on n s at b r t x bytes u a in
       let step : x ≡ get_or s (r.at + 2) 0 = rw (← u.text) a.1 in
-      let kinds = o.kinds in
-      let froms = o.froms in
-      let some : 0 < get_or s r.at 0 = omega arith in
-      let one : source_row (arrow_in s r.at) ≡ source_row (arrow_in s at) = omega arith in
-      rw (a.2, step) (puts_more n s at b old r.at r.least (gathered steps) _ o
-      (point_put (gathered steps) (arrow_in s r.at) some
-      ∙ ap (λ (j : ℕ). pointed (gathered steps) j (single (get_or s (r.at + 2) 0))) one
-      ∙ point_twice old (source_row (arrow_in s at)) steps (single (get_or s (r.at + 2) 0))))
+      rw (a.2, step) (point_more r.at r.least steps o)

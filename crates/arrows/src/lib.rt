@@ -1,5 +1,5 @@
 // The arrows of a sheet: three bytes each, kind, from, to, strictly ascending. They are read into one table of 256 rows, a row for each
-// kind and step, and written from it.
+// kind and step, and written from it: one table and not four, since it is copied into the job's block as it is.
 #![tactic(auto)]
 
 ghost use Rattle.std.specs.Prelude.{◌≡◌, ◌+◌, ◌*◌, ◌%◌, ◌<◌, ◌≤◌, length};
@@ -13,8 +13,8 @@ use crate::runs::{Arrow, Stop, take};
 
 pub mod runs;
 
-// Puts the arrows into the table, up to the first that does not fit. Do all fit? A `bool`, since on a refusal too the clause `table_after`
-// says what the table holds.
+// Puts the arrows into the table, up to the first that does not fit. Do all fit? A `bool`: nothing but yes or no is
+// answered, and on either the table is as `table_after` says.
 pub fn read(s: &[u8], n: u8, table: &mut [u64; 256]) -> bool
     requires { (n ≤ 64) × (length s.now % 3 ≡ 0) }
     ensures value { result ≡ link_in_order n (arrows_in s.now) }
@@ -68,6 +68,7 @@ pub fn turned(n: u8, rows: &[u64]) -> [u64; 64]
     ensures { result ≡ turned n (row rows.now) }
 {
     let mut table = [0u64; 64];
+    // By number: it is the step that is put into the other rows.
     for b in 0..n {
         spill(rows[b as usize], b, &mut table);
     }
@@ -95,6 +96,7 @@ fn write_kind(k: u8, n: u8, rows: &[u64], room: &mut [u8], at: usize) -> usize
     ensures { Spliced (spelt (kind_arrows k n (row rows.now))) at room.old room.new result }
 {
     let mut to = at;
+    // By number: it is the step that the arrows come from.
     for a in 0..n {
         to = write_row(k, a, rows[a as usize], room, to);
     }
@@ -116,7 +118,7 @@ fn from_rows<'a>(k: usize, conditions: &'a [u64], table: &'a [u64]) -> &'a [u64]
 }
 
 // How many bytes do the arrows of the table take? What is asked of n, the conditions and the table (`Kept`) stands in `size` and `write`
-// alone, so it has no type of its own.
+// alone, and that there are n rows in three functions, each of rows of its own: so neither has a type.
 pub fn size<'a>(n: u8, conditions: &'a [u64], table: &'a [u64]) -> usize
     requires { Kept n table.now × (length table.now ≡ 256) × (conditions.now ≡ turned_in n table.now) }
     ensures { result ≡ length (arrows_body table.now) }

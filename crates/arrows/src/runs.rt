@@ -6,22 +6,13 @@ ghost use Rattle.arrows.specs.Rows.{toward};
 ghost use Rattle.arrows.specs.Loops.{passes, arrow_in};
 ghost use Rattle.arrows.specs.Runs.{pointed, Advances, Begins, Taken};
 
-use std::fmt;
-use std::fmt::Display;
-
-// In the order of a sheet: by kind, then from, then to.
+// In the order of a sheet: by kind, then from, then to. The kind is a byte and no enum: what is none of the four is read too, and is
+// refused (`link_in_order`).
 #[derive(Clone, Copy, Debug, PartialEq, Eq, PartialOrd, Ord)]
 pub struct Arrow {
     pub kind: u8,
     pub from: u8,
     pub to: u8,
-}
-
-impl Display for Arrow {
-    fn fmt<W: fmt::Write>(&self, f: &mut fmt::Formatter<W>) -> fmt::Result {
-        let Arrow { kind, from, to } = *self;
-        write!(f, "{kind} {from} {to}")
-    }
 }
 
 impl Arrow {
@@ -60,6 +51,7 @@ pub struct Stop {
 
 // A run as far as it is read: where its next arrow would stand, and the least step below n that it may point at. Its arrows share the
 // head, their first two bytes.
+// It is no `Iterator`, since it is asked where it stops when it has ended.
 #[derive(Drop)]
 struct Run<'a> {
     s: &'a [u8],

@@ -34,6 +34,7 @@ struct Shown<'a> {
 impl Shown<'_> {
     // The step is allowed to the person: in which roles?
     fn say_roles(&self, page: &mut Page, s: u8, person: u8) {
+        // A role that there is not is refused.
         for role in 0..16 {
             let e = Entry {
                 person,

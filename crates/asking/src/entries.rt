@@ -13,7 +13,8 @@ use running::course::Course;
 // The most bytes that a journal may have: no entry more fits.
 const FULL: usize = 65535;
 
-// There are at most 64 of anything, so that 255 stands for every number that no byte has: nobody, no step, no role.
+// An entry's parts are bytes, for C. There are at most 64 of anything, so that 255 stands for every number that no byte has: nobody, no
+// step, no role.
 fn narrow(x: u64) -> u8 {
     u8::try_from(x).unwrap_or(u8::MAX)
 }
@@ -63,7 +64,8 @@ pub fn ask(page: &mut Page, course: &Course, e: Stated) -> Answer {
     }
 }
 
-// Puts the entry's bytes behind the journal that argument `at` names, if one does. A journal that was not found is made.
+// Puts the entry's bytes behind the journal that argument `at` names. A journal that was not found is made. Where none is named, nothing
+// can be said to be taken.
 fn keep(page: &Page, at: Option<usize>, end: Option<u32>, e: Entry) -> Result<(), Complained> {
     match at {
         Some(at) => append(
@@ -71,7 +73,7 @@ fn keep(page: &Page, at: Option<usize>, end: Option<u32>, e: Entry) -> Result<()
             End { at, length: end },
             &[e.person, e.step.0, e.role],
         ),
-        None => Ok(()),
+        None => Err(Complained),
     }
 }
 

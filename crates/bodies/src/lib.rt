@@ -34,7 +34,8 @@ pub fn read_marking(body: &[u8]) -> Marking
     }
 }
 
-// Role set i of a body; empty past the end.
+// Role set i of a body; empty past the end. That a body has whole sets is asked in three places and made in one: a type would be built for
+// each call.
 fn role_set(body: &[u8], i: usize) -> u16
     requires { (i < 65536) × (length body.now % 2 ≡ 0) }
     ensures { result ≡ set_at body.now i }
@@ -53,6 +54,7 @@ pub fn role_sets_fit(body: &[u8], roles: u64) -> bool
     ensures { result ≡ role_sets_fit roles body.now }
 {
     let mut found = 0;
+    // By number, as the definition `set_at` has it.
     for i in 0..body.len() / 2 {
         found = found | role_set(body, i);
     }
@@ -65,6 +67,7 @@ fn put_rows<F: Fn(usize) -> u64>(row: F, count: usize, block: &mut [u64], at: us
     requires callable { (i : ℕ) → i < count → F.pre row i }
     ensures { (f : ℕ → ℕ) → ((i x : ℕ) → i < count → F.post row i x → x ≡ f i) → Spliced (tabled count f) at block.old block.new result }
 {
+    // By number: the rows are asked for by it.
     for i in 0..count {
         block[at + i] = row(i);
     }
@@ -80,7 +83,7 @@ pub fn read_roles(body: &[u8], count: usize, block: &mut [u64], at: usize) -> us
 }
 
 // Is each action of the body one that there is? All are tested, where `all` would stop at the first that is not: so the loop has no way
-// out and takes many bytes at once.
+// out and takes many bytes at once (docs/MEASURED.md, read-full).
 pub fn actions_fit(body: &[u8], actions: u64) -> bool
     ensures { result ≡ actions_fit actions body.now }
 {

@@ -1,4 +1,5 @@
-// The job for so many arms, as words of a block.
+// The job for so many arms, as words of a block. How many there may be is asked by each function and stands in no type: docs/PROMISES.md
+// names them, with what they take for granted.
 ghost use Rattle.std.specs.Prelude.{◌≤◌, ◌<◌, ◌≡◌, length};
 ghost use Rattle.rules.specs.Graph.{graph_of};
 ghost use Rattle.cabinet.specs.Cabinet.{by_step, responses_at, includes_at, excludes_at, allows_at, holds_at, label_at, following, cabinet, at_first, arms_fit};
@@ -105,6 +106,7 @@ fn count(arms: u64, at: usize) -> u64
 }
 
 // Word `at` of the block.
+// A `match` on the place, and no closures: each table asks of another place.
 #[tactic(auto, unfolding(crate::specs::Rows::word_at))]
 fn word(arms: u64, at: usize) -> u64
     requires { (2 ≤ arms) × (arms ≤ 16) × (at < 404) }

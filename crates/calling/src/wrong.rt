@@ -72,7 +72,8 @@ fn complain_untaken(rt: &HostRuntime, c: Command, option: &str) -> Complained {
     Complained
 }
 
-// Does the command write a file? Help has a command in that place.
+// Does the command write a file? Help has a command in that place. The shape is asked of the command once, where it is obeyed, and handed
+// on.
 fn writes(c: Command, s: Shape) -> bool {
     c != Command::Help && has_out(s) && s.out < s.most
 }

@@ -11,7 +11,7 @@ pub struct Line {
     text: ArrayVec<u8, ROOM>,
 }
 
-// A name may hold an end of line, and a complaint has one line.
+// A name may hold an end of line, and a complaint has one line. Byte 127 stands as it is, so that this is not what `lines::names` shows.
 fn shown(b: u8) -> u8 {
     if b < 32 { b'?' } else { b }
 }

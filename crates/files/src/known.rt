@@ -1,4 +1,6 @@
 // What the system knows of a file.
+ghost use Rattle.std.specs.Prelude.{◌≡◌, IfOk};
+
 use crate::arguments::{PATH_MAX, argument};
 use crate::reasons::EILSEQ;
 use std::fs::Metadata;
@@ -6,7 +8,9 @@ use std::io::Error;
 use std::{fs, io};
 
 // The name as a path: a path is text here, and a name that is none leads nowhere.
-pub fn path_of(name: &[u8]) -> io::Result<&str> {
+pub fn path_of(name: &[u8]) -> io::Result<&str>
+    ensures { IfOk result (λ path. path.now ≡ name.now) }
+{
     str::from_utf8(name).map_err(|_| Error::from_raw_os_error(EILSEQ))
 }
 

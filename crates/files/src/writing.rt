@@ -38,7 +38,8 @@ fn create(rt: &HostRuntime, name: &[u8]) -> io::Result<File> {
         .open(rt, path_of(name)?)
 }
 
-// Among those who make a file of that name, one makes it. By force a file that is there may stay until it is replaced.
+// Among those who make a file of that name, one makes it. Name and force go on by themselves, as the tour has them too. By force a file
+// that is there may stay until it is replaced.
 pub fn claimed(rt: &HostRuntime, name: &[u8], force: bool) -> io::Result<Claim> {
     match create(rt, name) {
         Ok(_) => Ok(Claim::Ours),

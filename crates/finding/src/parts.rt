@@ -46,6 +46,7 @@ fn bytes_at<const N: usize>(s: &[u8], i: usize) -> Option<&[u8; N]> {
     s.get(i..)?.first_chunk()
 }
 
+// As in numbers, a function for each width.
 pub fn two(s: &[u8], i: usize) -> usize
     ensures { result < 65536 }
 {

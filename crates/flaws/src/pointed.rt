@@ -3,6 +3,19 @@ use crate::said::{Body, Sheet};
 use arrows::runs::Arrow;
 use finding::words::{All, say_finding};
 use output::page::Page;
+use std::fmt;
+use std::fmt::Display;
+
+// An arrow in a line: kind, from, to.
+#[derive(Clone, Copy)]
+struct Triple(Arrow);
+
+impl Display for Triple {
+    fn fmt<W: fmt::Write>(&self, f: &mut fmt::Formatter<W>) -> fmt::Result {
+        let Arrow { kind, from, to } = self.0;
+        write!(f, "{kind} {from} {to}")
+    }
+}
 
 // What is wrong with an arrow.
 #[derive(Clone, Copy)]
@@ -56,22 +69,26 @@ pub fn say_wrong(page: &mut Page, sheet: Sheet) {
     let Some(Wrong { at, arrow, why }) = first_wrong(sheet.bytes(Body::Arrows), steps) else {
         return;
     };
+    let shown = Triple(arrow);
     match why {
         Why::Kind => say_finding(
             page,
-            format_args!("arrow {at} is {arrow}"),
+            format_args!("arrow {at} is {shown}"),
             "a kind from 0 to 3",
         ),
         Why::Step => say_finding(
             page,
-            format_args!("arrow {at} is {arrow}"),
+            format_args!("arrow {at} is {shown}"),
             All("steps", steps as u64),
         ),
-        Why::Order(before) => say_finding(
-            page,
-            format_args!("arrow {at} is {arrow}, after {before}"),
-            "arrows in ascending order, no arrow twice",
-        ),
+        Why::Order(before) => {
+            let last = Triple(before);
+            say_finding(
+                page,
+                format_args!("arrow {at} is {shown}, after {last}"),
+                "arrows in ascending order, no arrow twice",
+            );
+        }
     }
 }
 

@@ -1,4 +1,5 @@
-// What one step, one entry and a list of entries need and do.
+// What one step, one entry and a list of entries need and do. That nothing is against the graph is asked by each function and stands in no
+// type: docs/PROMISES.md names them, with what they take for granted.
 ghost use Rattle.std.specs.Prelude.{◌≡◌, ◌%◌, ◌<◌, length, ◌&&◌};
 ghost use Rattle.sets.specs.Sets.{has};
 ghost use Rattle.rules.specs.Graph.{graph_of, graph_verdict};

@@ -108,6 +108,10 @@ module _ (g : Graph) where
   unfolding ascends number_of
   step_given t e = exactly (step_lines g t e) (number_of_tracked (the_step g t e)) refl (step_number g t e)
 
+cond_same : (b : Bool) (n : ℕ) → cond b n n ≡ n
+cond_same true n = refl
+cond_same false n = refl
+
 -- can the job still end: 2, 4, 6, 8, 22; a search that is begun is answered
 ends_number : (v : Verdict) (a : Ends) → number_of_ends (ends_of v a) ≡ number_of_verdict v
 unfolding ends_of number_of_ends number_of_verdict

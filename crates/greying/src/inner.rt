@@ -1,4 +1,5 @@
-// The steps that are not grey, on a graph with nothing against it.
+// The steps that are not grey, on a graph with nothing against it. That nothing is against the graph is asked by each function and stands
+// in no type: docs/PROMISES.md names them, with what they take for granted.
 ghost use Rattle.std.specs.Prelude.{◌≡◌};
 ghost use Rattle.sets.specs.Sets.{meet, gather};
 ghost use Rattle.rules.specs.Graph.{graph_of, graph_verdict, roles_held};

@@ -20,7 +20,7 @@ pub fn allowed_to(g: &Job, m: Marking, person: u64) -> Result<u64, Refusal>
     choice_on(g, m, person)
 }
 
-// The steps that are allowed to someone. Refusals 2, 4, 6, 8.
+// The steps that are allowed to someone. Two calls and no `Option`: C has both, and 11 is of the first alone. Refusals 2, 4, 6, 8.
 pub fn allowed_to_someone(g: &Job, m: Marking) -> Result<u64, Refusal>
     ensures value { result ≡ the_choice_of_all (graph_of g.now) m }
     ensures lent { g.exit.now ≡ g.entry.now }

@@ -6,7 +6,7 @@ ghost use Rattle.journal.specs.Walk.{stays, stride_at};
 use crate::Stride;
 use moves::{Entry, Refusal, Step};
 
-// Entry k of a journal.
+// Entry k of a journal. Loops go by number and not by chunks: a refused entry is told by its number, and the laws speak of `entry_at`.
 pub fn entry_at(j: &[u8], k: usize) -> Entry
     requires { 3 * k + 3 ≤ length j.now }
     ensures { result ≡ entry_at j.now k }

@@ -45,7 +45,8 @@ impl From<Refusal> for Stopped {
     }
 }
 
-// A walk keeps hold of the lent journal and of its place in it, the number of entries handed out.
+// A walk keeps hold of the lent journal and of its place in it, the number of entries handed out. It is no `Iterator`: over a
+// length that does not fit it says 7 at every place (`stride_at`).
 #[derive(Clone, Copy)]
 pub struct Walk<'a> {
     pub journal: &'a [u8],

@@ -1,4 +1,6 @@
 // A run on a graph with nothing against it: an allowed entry meets five tests, and which refusal another one meets is asked only then.
+// That nothing is against the graph, and that the journal's length fits, is asked by each function and stands in no type: docs/PROMISES.md
+// names them, with what they take for granted.
 ghost use Rattle.std.specs.Prelude.{◌≡◌, ◌%◌, ◌≤◌, length};
 ghost use Rattle.rules.specs.Graph.{graph_of, graph_verdict};
 ghost use Rattle.journal.specs.Journal.{entries};

@@ -15,7 +15,7 @@ pub struct Kept {
     pub marking: Marking,
 }
 
-// A refusal leaves what was kept.
+// A refusal leaves what was kept. Both arms are written out: kept/changed_by_refusal and kept/unchanged_by_step are edits of them.
 #[tactic(auto, unfolding(crate::specs::Keep::kept_by))]
 fn kept_by(m: Marking, answer: Result<Marking, Denied>) -> Marking
     ensures { result ≡ kept_by m answer }

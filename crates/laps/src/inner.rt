@@ -1,4 +1,5 @@
-// The stem, then the lap twice: on a graph, journals and a marking with nothing against them.
+// The stem, then the lap twice: on a graph, journals and a marking with nothing against them. That is asked by each function and
+// stands in no type: docs/PROMISES.md names them, with what they take for granted.
 ghost use Rattle.std.specs.Prelude.{◌≡◌, ◌%◌, ◌<◌, ◌≤◌, length, Ok};
 ghost use Rattle.rules.specs.Graph.{graph_of, graph_verdict};
 ghost use Rattle.sets.specs.Sets.{lowest};
@@ -82,7 +83,7 @@ fn halted(index: u16, refusal: Refusal) -> Halt
     Halt { index, refusal }
 }
 
-// The lap's second time. Refusals 11 to 15.
+// The lap's second time. By `match`: each time gives the error its own pass, and `map_err` with a closure is no plainer. Refusals 11 to 15.
 fn second_lap<'a>(g: &'a Job, m: Marking, lap: &[u8]) -> Result<Endless, Broken>
     requires { (graph_verdict (graph_of g.now) ≡ Ok tt) × (length lap.now % 3 ≡ 0) × (length lap.now ≤ 65535) }
     ensures { result ≡ second_lap (graph_of g.now) m (entries lap.now) }

@@ -29,7 +29,7 @@ pub enum Endless {
     Starved(Step),
 }
 
-// Refused before any entry is looked at; or stopped at the first entry not allowed, with its index in the stem or lap and the pass.
+// The input was refused, and no entry was looked at; or an entry was not allowed: where it stands in its journal, in which pass, and why.
 #[derive(Clone, Copy)]
 pub enum Broken {
     Refused(Refusal),

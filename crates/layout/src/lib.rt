@@ -6,7 +6,8 @@ ghost use Rattle.numbers.specs.Numbers.{Spliced};
 ghost use Rattle.layout.specs.Layout.{line_of, front, start, kind_at, offset_at, size_at, body_at, contents_fit};
 ghost use Rattle.layout.specs.Loops.{lines};
 
-// Where body i starts, by the contents.
+// Where body i starts, by the contents. What is asked of the sheet's length hangs on i: it is no fact of the sheet that a type could
+// hold. And `offset` and `size` are two functions of a line each, since `offset_at` and `size_at` are two definitions.
 pub fn offset(s: &[u8], i: usize) -> usize
     requires { 6 + 5 * i ≤ length s.now }
     ensures { (result ≡ offset_at s.now i) × (result < 65536) }

@@ -1,7 +1,7 @@
 // Refusals in words: what each number says, understandable by itself on a screen.
 use crate::display::Set;
 use crate::names::say_file;
-use moves::{Refusal, Told, tell};
+use moves::Refusal;
 use output::page::Page;
 use output::status::Answer;
 use std::fmt;
@@ -39,7 +39,7 @@ pub struct Numbered(pub Refusal);
 impl Display for Numbered {
     fn fmt<W: fmt::Write>(&self, f: &mut fmt::Formatter<W>) -> fmt::Result {
         let Numbered(r) = *self;
-        write!(f, "{} {}", tell(r).number, words(r))
+        write!(f, "{} {}", r.number(), words(r))
     }
 }
 

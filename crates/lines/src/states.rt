@@ -41,6 +41,8 @@ pub struct Stated {
 }
 
 impl From<Entry> for Stated {
+    ghost from_gives = { λ e s. (s.person ≡ e.person) × (s.step ≡ e.step.0) × (s.role ≡ e.role) };
+
     fn from(e: Entry) -> Stated {
         Stated {
             person: e.person as u64,

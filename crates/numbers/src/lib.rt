@@ -4,7 +4,8 @@
 ghost use Rattle.std.specs.Prelude.{◌≡◌, ℕ, ◌+◌, ◌*◌, ◌<◌, ◌≤◌, length, drop};
 ghost use Rattle.numbers.specs.Numbers.{number, bytes, Spliced};
 
-// The number that the two bytes at `at` spell.
+// The number that the two bytes at `at` spell. `two` and `eight` are no one function: `from_le_bytes` is each type's own, and no trait
+// has it.
 pub fn two(s: &[u8], at: usize) -> u16
     requires { at + 2 ≤ length s.now }
     ensures { result ≡ number 2 (drop at s.now) }
@@ -23,7 +24,8 @@ pub fn eight(s: &[u8], at: usize) -> u64
 }
 
 // Spells x in w bytes from `at` on, and gives the place after them. Room and place stay two: `Spliced`, the promise of every writer,
-// is of the whole room, and with no heap there is no `Vec` to push to.
+// is of the whole room, and with no heap there is no `Vec` to push to. The bytes are counted out, since `put` asks nothing of w and
+// `to_le_bytes` has eight.
 pub fn put(x: u64, w: usize, room: &mut [u8], at: usize) -> usize
     requires { at + w ≤ length room.old }
     ensures { Spliced (bytes w x) at room.old room.new result }

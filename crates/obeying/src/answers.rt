@@ -111,6 +111,7 @@ fn on_job<F: FnOnce(&mut Page, &Course) -> Result<Answer, Complained>>(
     }
 }
 
+// A `match` and no table of functions: each command takes other inputs.
 pub fn give(page: &mut Page, t: &Task, inputs: &Inputs) -> Result<Answer, Complained> {
     let Inputs {
         first,

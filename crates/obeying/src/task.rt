@@ -59,7 +59,7 @@ impl Task {
         }
     }
 
-    // N, or the arms of a mast; 0 where the command has none.
+    // N, or the arms of a mast. No command without either asks: the 0 is never seen.
     pub fn count(&self) -> u64 {
         match self.stated {
             Some(Stating::Count(n)) => n,
@@ -67,6 +67,7 @@ impl Task {
         }
     }
 
+    // No command without an entry asks: the zeros are never seen.
     pub fn entry(&self) -> Stated {
         match self.stated {
             Some(Stating::Entry(e)) => e,

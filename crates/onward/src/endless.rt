@@ -7,6 +7,7 @@ use crate::Lapped;
 use answers::told::said;
 use laps::{Broken, Pass};
 
+// Written out, as `number_of_pass` is.
 #[tactic(auto, unfolding(laps::specs::Laps::number_of_pass))]
 fn pass(p: Pass) -> u64
     ensures { result ≡ number_of_pass p }

@@ -8,7 +8,7 @@ use answers::told::said;
 use moves::{NONE, Rank};
 use tracker::Unmoved;
 
-// The state that stands where there is none. No step has its rank.
+// The state that stands where there is none, since C's struct has no place for none. No step has its rank.
 pub const NOWHERE: Track = Track {
     marking: NONE,
     rank: 0,

@@ -56,7 +56,8 @@ impl Page {
         }
     }
 
-    // What `write!(page, ..)` calls. It answers nothing, since the page keeps whether it is torn.
+    // What `write!(page, ..)` calls. It answers nothing, since the page keeps whether it is torn, and promises nothing, since what a
+    // Display writes is its own.
     pub fn write_fmt<T: Display + Drop>(&mut self, text: T) {
         let _ = self.write(text);
     }

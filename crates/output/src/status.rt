@@ -6,7 +6,7 @@ use crate::page::Page;
 
 // What a command came to. A question that can be asked by status has the answers yes, which is Answered, and No; Unsure is neither: it
 // was answered that the room did not suffice to tell.
-#[derive(Drop)]
+#[derive(Clone, Copy, Debug, PartialEq, Eq)]
 pub enum Answer {
     Answered,
     No,

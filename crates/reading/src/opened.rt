@@ -90,6 +90,7 @@ impl<'a> Sheet<'a> {
         ensures { result ≡ kinds_right self.now.bytes.now }
     {
         let mut both = 0;
+        // By number: the two tables lie 64 rows apart in one.
         for a in 0..self.counts.steps as usize {
             both |= table[128 + a] & table[192 + a];
         }

@@ -34,7 +34,7 @@ fn say_unapplied(
     refused
 }
 
-// A record that was not read for n steps, 10.
+// A record that was not read for n steps, 10. N and record go on by themselves: three calls take both, and each asks another thing of them.
 pub fn say_ill_formed(page: &mut Page, n: u64, record: Input, r: Refusal) -> Answer {
     let refused = say_refused(page, record.at, r);
     finding::recorded::say_found(page, n, record.bytes);

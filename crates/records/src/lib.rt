@@ -8,7 +8,8 @@ use moves::{Denied, Marking, Refusal};
 
 pub mod inner;
 
-// What is needed of a marking, and what is then done to it. Never: no marking will do.
+// What is needed of a marking, and what is then done to it. Never: no marking will do. A flag beside the sets and no enum: the 65 bytes and
+// C's nine words (`record_bytes`, `record_words`) have never and the sets so.
 #[derive(Clone, Copy)]
 pub struct Record {
     pub never: bool,

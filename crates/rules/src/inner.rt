@@ -1,4 +1,5 @@
-// Asking and taking on a graph with nothing against it.
+// Asking and taking on a graph with nothing against it. That nothing is against the graph is asked by each function and stands
+// in no type: docs/PROMISES.md names them, with what they take for granted.
 ghost use Rattle.std.specs.Prelude.{◌≡◌, ◌+◌, ◌<◌, ◌≤◌};
 ghost use Rattle.moves.specs.Move.{after, denied, given_back};
 ghost use Rattle.tables.specs.Tables.{row, table_at};
@@ -9,7 +10,7 @@ use crate::{ALLOWS, CONDITIONS, EXCLUDES, Ending, HOLDS, INCLUDES, Job, LABELS, 
 use moves::inner::{Row, ask_row, fits, give_back, moved};
 use moves::{Denied, Entry, Marking, Refusal};
 
-// Row s of the table of `count` rows from word `at` on.
+// Row s of the table of `count` rows from word `at` on. The count is handed in for the contract, whose definition has it (`table_at`).
 fn word(g: &Job, at: usize, count: usize, s: u8) -> u64
     requires { (at + count ≤ 404) × (s < count) }
     ensures { result ≡ row (table_at at count g.now) s }

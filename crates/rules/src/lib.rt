@@ -11,7 +11,8 @@ use tables::{Counts, Kinds, labels_fit, roles_fit};
 
 pub mod inner;
 
-// A job: the counts of steps, people, roles and actions, then the tables, each from its first word on. A set is a word.
+// A job: the counts of steps, people, roles and actions, then the tables, each from its first word on. A set is a word. It is one
+// block and no struct: C lends it so.
 pub const CONDITIONS: usize = 4;
 
 pub const RESPONSES: usize = 68;
@@ -82,7 +83,8 @@ pub fn check(g: &Job) -> Result<(), Refusal>
     Ok(())
 }
 
-// May the step be taken? Nothing is changed by asking. Refusals 2, 4, 6, 8, 11 to 15.
+// May the step be taken? Nothing is changed by asking. Job, marking and entry stay three, as C hands them over. Refusals 2, 4, 6, 8,
+// 11 to 15.
 pub fn ask(g: &Job, m: Marking, e: Entry) -> Result<(), Refusal>
     ensures value { result ≡ the_asked (graph_of g.now) m e }
     ensures lent { g.exit.now ≡ g.entry.now }

@@ -19,7 +19,8 @@ pub fn read(s: &[u8], g: &mut Job) -> Result<Marking, Refusal>
     Ok(reading::first_marking(s))
 }
 
-// Writes the sheet of the graph and its first marking, and gives its length. Refusals 2, 4, 6, 18; on a refusal the room stays as it is.
+// Writes the sheet of the graph and its first marking, and gives its length, and not the part that is written: C is handed it
+// on. Refusals 2, 4, 6, 18; on a refusal the room stays as it is.
 pub fn write(g: &Job, m: Marking, room: &mut [u8]) -> Result<usize, Refusal>
     ensures value { result ≡ the_written (graph_of g.now) m (length room.old) }
     ensures room_after { room.new ≡ room_after (graph_of g.now) m room.old }

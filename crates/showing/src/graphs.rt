@@ -15,6 +15,7 @@ pub fn say_counts(page: &mut Page, g: &Job) {
 
 // The four tables of arrows stand one behind the other, and a row names the steps that it points at.
 pub fn say_arrow_count(page: &mut Page, g: &Job) {
+    // By a loop: that what `sum` adds up fits was tried, and did not prove.
     let mut total = 0;
     for x in &g[CONDITIONS..ALLOWS] {
         total += x.count_ones();

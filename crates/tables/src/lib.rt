@@ -33,8 +33,8 @@ pub fn roles_named(table: &[u64]) -> u64
     table.iter().fold(0, |found, row| found | *row)
 }
 
-// What the rows from `count` on name. `roles_named(&table[count..])` was tried: its loop does not know its end, and a check took some
-// hundredths longer.
+// What the rows from `count` on name. By number: `beyond` speaks of a row's place in the whole table, which a walk over the part behind
+// `count` would have to count out again.
 fn rows_beyond(table: &[u64], count: usize) -> u64
     requires { count ≤ length table.now }
     ensures { result ≡ gather (length table.now) (beyond count (row table.now)) }
@@ -46,7 +46,8 @@ fn rows_beyond(table: &[u64], count: usize) -> u64
     found
 }
 
-// All rows are gathered, not those below the count alone: where those beyond are empty it is the same.
+// All rows are gathered, not those below the count alone: where those beyond are empty it is the same. The counts go by one, as the
+// definition `roles_fit` has them.
 pub fn roles_fit<'a>(
     actions: u64,
     people: u64,
@@ -101,6 +102,7 @@ struct Seen {
     both: u64,
 }
 
+// Two flags and no refusal: 4 is asked of roles and actions too before 6 is given.
 #[derive(Clone, Copy)]
 pub struct Arrows {
     pub fit: bool,
@@ -117,6 +119,7 @@ impl<'a> Kinds<'a> {
     {
         let mut all = 0;
         let mut both = 0;
+        // By number: four tables side by side, of which a `zip` is no plainer.
         for i in from..to {
             let gain = self.includes[i];
             let lose = self.excludes[i];
@@ -126,7 +129,8 @@ impl<'a> Kinds<'a> {
         Seen { all, both }
     }
 
-    // A graph of 64 steps: no word names a step beyond, and no row stands beyond. Apart from `checked` for speed: half the rows are read.
+    // A graph of 64 steps: no word names a step beyond, and no row stands beyond. Apart from `checked`
+    // for speed (docs/DECISIONS.md, 23): half the rows are read.
     fn full(self) -> Arrows
         requires { Sized 64 self.conditions.now self.responses.now self.includes.now self.excludes.now }
         ensures fit_value { let k = self.entry in result.fit ≡ arrow_rows_fit 64 k.conditions.now k.responses.now

@@ -46,6 +46,7 @@ pub fn rewritten() -> Job {
     g
 }
 
+// Steps and roles stay numbers: the journals beside hold them so, and are folded as they stand.
 pub fn step_name(s: u8) -> &'static str {
     match s {
         0 => "reboot",

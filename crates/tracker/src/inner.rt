@@ -1,4 +1,5 @@
-// What is against graph and marking, and the tracker's rule on states.
+// What is against graph and marking, and the tracker's rule on states. That a rank is at most 64 is asked by each function and stands in no
+// type: docs/PROMISES.md names them, with what they take for granted.
 ghost use Rattle.std.specs.Prelude.{◌≡◌, ◌<◌, ◌≤◌};
 ghost use Rattle.moves.specs.First.{first};
 ghost use Rattle.rules.specs.Graph.{graph_of};

@@ -14,7 +14,7 @@ use std::process::ExitCode;
 // Neither answered nor refused.
 const ELSE: i32 = 2;
 
-// The status as C takes it.
+// The status as C takes it; all else is 2, which `i32::from` would hand on.
 fn for_c(status: u8) -> i32
     ensures { result ≡ for_c status }
 {

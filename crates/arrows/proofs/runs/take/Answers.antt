@@ -4,7 +4,7 @@ use Rattle.std.proofs.Common.{rules, arith, refl, sym, ap, ◌∙◌, ◌≡◌,
 use Rattle.numbers.specs.Numbers.{Bytes}
 use Rattle.sets.specs.Sets.{single}
 use Rattle.arrows.specs.Arrows.{Arrow}
-use Rattle.arrows.specs.Runs.{under_more, wait_first, wait_more, point_first, point_more}
+use Rattle.arrows.specs.Runs.{under_more, wait_first, wait_onward, point_first, point_onward}
 use Rattle.arrows.proofs.runs.take.Goals as goal
 
 pub loop-b-init : goal.loop-b-init
@@ -38,7 +38,7 @@ loop-b-preserved c =
     let before = c.loop-b.invariant in
     record {
       under = under_more a.n a.s.now a.at b _ _ _ bytes before.under c.in-Some.ensures;
-      puts = wait_more a.n a.s.now a.at b (sym kind ∙ c.if-first-eq0.true) c.single-one.result (c.single-one.ensures ∙ ap single from)
+      puts = wait_onward a.n a.s.now a.at b (sym kind ∙ c.if-first-eq0.true) c.single-one.result (c.single-one.ensures ∙ ap single from)
           a.table.now _ _ _ _ _ bytes before.under c.in-Some.ensures c.point-in-Some.ensures before.puts;
     }
 
@@ -72,5 +72,5 @@ loop-b-else-first-eq0-preserved c =
     record {
       under = under_more a.n a.s.now a.at b _ _ _ bytes before.under next;
       puts = rw c.single-steps-in-Some-next_step.ensures
-          (point_more a.n a.s.now a.at b (omega arith) a.table.now _ _ _ _ bytes before.under next before.puts);
+          (point_onward a.n a.s.now a.at b (omega arith) a.table.now _ _ _ _ bytes before.under next before.puts);
     }
