@@ -117,7 +117,8 @@ fn from_rows<'a>(k: usize, conditions: &'a [u64], table: &'a [u64]) -> &'a [u64]
     &table[from..end]
 }
 
-// How many bytes do the arrows of the table take? What is asked of n, the conditions and the table (`Kept`) stands in `size` and `write`
+// How many bytes do the arrows of the table take? Counting and writing go over the kinds apart, since the one adds up and the other carries
+// a place on. What is asked of n, the conditions and the table (`Kept`) stands in `size` and `write`
 // alone, and that there are n rows in three functions, each of rows of its own: so neither has a type.
 pub fn size<'a>(n: u8, conditions: &'a [u64], table: &'a [u64]) -> usize
     requires { Kept n table.now × (length table.now ≡ 256) × (conditions.now ≡ turned_in n table.now) }

@@ -1,4 +1,6 @@
 // Markings, endings, entries and records.
+ghost use Rattle.std.specs.Prelude.{◌≡◌};
+
 use crate::display::Set;
 use crate::refusals::say_refused;
 use moves::{Entry, Marking, Refusal};
