@@ -173,6 +173,7 @@ pub fn ran(o: Result<Ended, Stopped>) -> Ran
     }
 }
 
+// A match in a match: of one over both the compiler makes a comparison more for each.
 #[tactic(auto, unfolding(journal::specs::Walk::number_of_walked, crate::specs::Values::ended_of_walked, journal::specs::Walk::entry_of_walked))]
 pub fn walked(o: Result<Option<Entry>, Refusal>) -> Walked
     ensures number_value { result.number ≡ number_of_walked o }
@@ -180,15 +181,17 @@ pub fn walked(o: Result<Option<Entry>, Refusal>) -> Walked
     ensures result_value { result.entry ≡ entry_of_walked o }
 {
     match o {
-        Ok(Some(entry)) => Walked {
-            number: 0,
-            ended: 0,
-            entry,
-        },
-        Ok(None) => Walked {
-            number: 0,
-            ended: 1,
-            entry: NOBODY,
+        Ok(at) => match at {
+            Some(entry) => Walked {
+                number: 0,
+                ended: 0,
+                entry,
+            },
+            None => Walked {
+                number: 0,
+                ended: 1,
+                entry: NOBODY,
+            },
         },
         Err(r) => Walked {
             number: said(r).number,

@@ -1,7 +1,7 @@
 // What the program was called with.
 ghost use Rattle.std.specs.Prelude.{◌≡◌, ◌+◌, ◌-◌, ◌≤◌, drop, length, slice_get};
+ghost use Rattle.files.specs.Operands.{operands_of};
 
-use arrayvec::ArrayVec;
 use std::env::{Env, FillError};
 
 // The most bytes of a path, with the 0 that ends it.
@@ -10,12 +10,19 @@ pub const PATH_MAX: usize = 4096;
 // As many operands are kept: no command takes so many, so that they stand for any more too.
 const OPERANDS_MAX: usize = 7;
 
+// The places of the operands. No `ArrayVec`, which is not copied.
+#[derive(Clone, Copy, Default)]
+struct Operands {
+    at: [usize; OPERANDS_MAX],
+    count: usize,
+}
+
 // An argument is named by its place. The operands, the command before its own; which options were given; the value of --from; does `-`
 // stand among what names a file, once or more often; did `--` end the options? Then what is wrong: the first option that is none, an
 // option whose value is missing, and the first argument that is too long.
-#[derive(Default, Drop)]
+#[derive(Clone, Copy, Default)]
 pub struct Call {
-    operands: ArrayVec<usize, OPERANDS_MAX>,
+    operands: Operands,
     pub force: bool,
     pub never: bool,
     pub status: bool,
@@ -67,17 +74,34 @@ fn flag_of(word: &[u8]) -> Option<Flag> {
     }
 }
 
+impl Operands {
+    fn as_slice(&self) -> &[usize]
+        ensures { result.now ≡ operands_of self.now }
+    {
+        let kept = self.count.min(OPERANDS_MAX);
+        &self.at[..kept]
+    }
+
+    // One more; what is beyond the room is dropped.
+    fn push(&mut self, i: usize) {
+        if self.count < OPERANDS_MAX {
+            self.at[self.count] = i;
+            self.count += 1;
+        }
+    }
+}
+
 impl Call {
     // The command, which is the first operand.
     pub fn command(&self) -> Option<usize>
-        ensures { result ≡ slice_get self.now.operands.items 0 }
+        ensures { result ≡ slice_get (operands_of self.now.operands) 0 }
     {
-        self.operands.first().copied()
+        self.operands.as_slice().first().copied()
     }
 
     // The operands behind the command.
     fn behind(&self) -> &[usize]
-        ensures { result.now ≡ drop 1 self.now.operands.items }
+        ensures { result.now ≡ drop 1 (operands_of self.now.operands) }
     {
         match self.operands.as_slice() {
             [_, behind @ ..] => behind,
@@ -87,14 +111,14 @@ impl Call {
 
     // Operand k behind the command.
     pub fn operand(&self, k: usize) -> Option<usize>
-        ensures { result ≡ slice_get self.now.operands.items (k + 1) }
+        ensures { result ≡ slice_get (operands_of self.now.operands) (k + 1) }
     {
         self.behind().get(k).copied()
     }
 
     // How many operands stand behind the command.
     pub fn operands(&self) -> usize
-        ensures { result ≡ length self.now.operands.items - 1 }
+        ensures { result ≡ length (operands_of self.now.operands) - 1 }
     {
         self.behind().len()
     }
@@ -146,7 +170,7 @@ impl Call {
             return;
         }
         self.note_dash(word);
-        let _ = self.operands.try_push(i);
+        self.operands.push(i);
     }
 }
 

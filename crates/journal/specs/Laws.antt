@@ -14,6 +14,8 @@ use Rattle.moves.specs.First.{first}
 use Rattle.rules.specs.Answers.{entry_move, marking_lines}
 use Rattle.moves.specs.Move.{entry_of, marking_fits, no_marking}
 use Rattle.moves.specs.Given.{first_clear, first_refused}
+use Rattle.journal.specs.declared.Ended.{Ended}
+use Rattle.journal.specs.declared.Stopped.{Stopped}
 use Rattle.journal.specs.Ran.{Ran}
 use Rattle.journal.specs.Journal.{entries, entry_at, length_fits}
 use Rattle.journal.specs.Run.{go_on, length_lines, ran_of, the_run, run_from}
@@ -193,3 +195,16 @@ unfolding hand_out
 walk_end j k f h =
     let count : length (entries j) * 3 ≡ length j = entries_length j (fits_threes j f) in
     walk_fits j k f ∙ ap (hand_out k) (drop_of_length-le (entries j) (let z : length (entries j) ≤ k = omega arith in z))
+
+-- ---- equal answers have equal parts
+
+pub same_ended : (m n : Marking) (k l : ℕ) → ◌≡◌ {A = Ran} (Ok (ended m k)) (Ok (ended n l)) → (m ≡ n) × (k ≡ l)
+same_ended m n k l e =
+    let same : ended m k ≡ ended n l = cc in
+    (ap (λ (x : Ended). x.marking) same, ap (λ (x : Ended). x.entries) same)
+
+pub same_stopped : (k l : ℕ) (m n : Marking) (r q : Refusal) → ◌≡◌ {A = Ran} (Err (stopped k m r)) (Err (stopped l n q))
+    → (k ≡ l) × (m ≡ n) × (r ≡ q)
+same_stopped k l m n r q e =
+    let same : stopped k m r ≡ stopped l n q = cc in
+    (ap (λ (x : Stopped). x.index) same, ap (λ (x : Stopped). x.marking) same, ap (λ (x : Stopped). x.refusal) same)

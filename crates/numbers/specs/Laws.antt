@@ -30,6 +30,25 @@ number_two i s =
     let b : number 1 (drop (i + 1) s) ≡ get_or s (i + 1) 0 + 256 * 0 = number_suc 0 (i + 1) s in
     omega arith
 
+-- one byte, and those from k on
+number_next : (w j k : ℕ) (s : List ℕ) → j + 1 ≡ k → number (suc w) (drop j s) ≡ get_or s j 0 + 256 * number w (drop k s)
+number_next w j k s e = number_suc w j s ∙ ap (λ (m : ℕ). get_or s j 0 + 256 * number w (drop m s)) e
+
+pub number_eight : (i : ℕ) (s : List ℕ)
+    → number 8 (drop i s) ≡ get_or s i 0 + 256 * (get_or s (i + 1) 0 + 256 * (get_or s (i + 2) 0 + 256 * (get_or s (i + 3) 0
+    + 256 * (get_or s (i + 4) 0 + 256 * (get_or s (i + 5) 0 + 256 * (get_or s (i + 6) 0 + 256 * get_or s (i + 7) 0))))))
+unfolding number
+number_eight i s =
+    let a = number_next 7 i (i + 1) s (omega arith) in
+    let b = number_next 6 (i + 1) (i + 2) s (omega arith) in
+    let c = number_next 5 (i + 2) (i + 3) s (omega arith) in
+    let d = number_next 4 (i + 3) (i + 4) s (omega arith) in
+    let e = number_next 3 (i + 4) (i + 5) s (omega arith) in
+    let f = number_next 2 (i + 5) (i + 6) s (omega arith) in
+    let g = number_next 1 (i + 6) (i + 7) s (omega arith) in
+    let h : number 1 (drop (i + 7) s) ≡ get_or s (i + 7) 0 + 256 * 0 = number_suc 0 (i + 7) s in
+    omega arith
+
 -- the first a bytes, and the b bytes after them
 pub number_add : (a b i : ℕ) (s : List ℕ) → number (a + b) (drop i s) ≡ number a (drop i s) + 256 ^ a * number b (drop (i + a) s)
 unfolding number

@@ -13,26 +13,34 @@ pub fn two(s: &[u8], at: usize) -> u16
     u16::from_le_bytes([s[at], s[at + 1]])
 }
 
-// The number that the eight bytes at `at` spell.
+// The number that the eight bytes at `at` spell. They are read one by one: a copy of the slice has to look whether the two overlap.
 pub fn eight(s: &[u8], at: usize) -> u64
     requires { at + 8 ≤ length s.now }
     ensures { result ≡ number 8 (drop at s.now) }
 {
-    let mut word = [0; 8];
-    word.copy_from_slice(&s[at..at + 8]);
+    let word = [
+        s[at],
+        s[at + 1],
+        s[at + 2],
+        s[at + 3],
+        s[at + 4],
+        s[at + 5],
+        s[at + 6],
+        s[at + 7],
+    ];
     u64::from_le_bytes(word)
 }
 
 // Spells x in w bytes from `at` on, and gives the place after them. Room and place stay two: `Spliced`, the promise of every writer,
 // is of the whole room, and with no heap there is no `Vec` to push to. The bytes are counted out, since `put` asks nothing of w and
-// `to_le_bytes` has eight.
+// `to_le_bytes` has eight; and by their number, since the compiler makes one store of them then, and eight where a slice is gone over.
 pub fn put(x: u64, w: usize, room: &mut [u8], at: usize) -> usize
     requires { at + w ≤ length room.old }
     ensures { Spliced (bytes w x) at room.old room.new result }
 {
     let mut rest = x;
-    for byte in room[at..at + w].iter_mut() {
-        *byte = (rest % 256) as u8;
+    for k in 0..w {
+        room[at + k] = (rest % 256) as u8;
         rest = rest / 256;
     }
     at + w

@@ -42,7 +42,9 @@ fn track_out(t: tracker::Track) -> Track
     }
 }
 
-// The answer to the state t, which comes back as it was, word for word, from 11 on.
+// The answer to the state t, which comes back as it was, word for word, from 11 on. Inlined, since the compiler else hands both over
+// through memory.
+#[inline]
 #[tactic(auto, unfolding(tracker::specs::Tracker::number_of_tracked, tracker::specs::Tracker::waiting_of_tracked, crate::specs::Tracks::track_of_tracked))]
 pub fn tracked(t: Track, o: Result<tracker::Track, Unmoved>) -> Tracked
     ensures number_value { result.number ≡ number_of_tracked o }

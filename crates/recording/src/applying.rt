@@ -2,14 +2,13 @@
 use files::complaints::Complained;
 use files::writing::Target;
 use journal::Stopped;
-use journal::inner::length_fits;
 use lines::refusals::say_refused;
 use lines::states::say_marking;
 use moves::{Marking, Refusal};
 use output::page::Page;
 use output::status::Answer;
 use records::Record;
-use running::course::{Course, Input, say_unmeasured};
+use running::course::{Course, Input, is_journal, say_unmeasured};
 use running::markings::{keep_marking, say_kept};
 use running::runs::say_ended;
 
@@ -102,14 +101,14 @@ fn say_unrestored(
     }
 }
 
-// 7 comes before 10, so that the journal's length is asked for first.
+// 7 comes before 10, so that a walk is asked for it first.
 pub fn restore(
     page: &mut Page,
     course: &Course,
     record: Input,
     t: Target,
 ) -> Result<Answer, Complained> {
-    if !length_fits(course.journal.bytes) {
+    if !is_journal(course.journal.bytes) {
         return Ok(say_unmeasured(page, course.journal));
     }
     let g = course.job;

@@ -1,6 +1,6 @@
 // A job, the marking to start at and the journal that is run from there, with the arguments of the call that name them.
 ghost use Rattle.std.specs.Prelude.{◌≡◌, None};
-ghost use Rattle.std.specs.Result.{result_unwrap_or};
+ghost use Rattle.std.specs.Result.{is_ok, result_unwrap_or};
 ghost use Rattle.rules.specs.Graph.{graph_of};
 ghost use Rattle.journal.specs.Run.{the_run};
 ghost use Rattle.journal.specs.Walk.{stride_at};
@@ -29,6 +29,13 @@ pub struct Course<'a> {
     pub start: Marking,
     pub from: Option<usize>,
     pub journal: Input<'a>,
+}
+
+// Does a walk go over it? Over another length than a journal's it says 7.
+pub fn is_journal(bytes: &[u8]) -> bool
+    ensures { result ≡ is_ok (stride_at bytes.now 0).said }
+{
+    walk_at(bytes, 0).said.is_ok()
 }
 
 // A journal that has not the length of one.

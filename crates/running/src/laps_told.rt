@@ -1,6 +1,5 @@
 // A stem, then a lap without end.
-use crate::course::{Course, Input, say_unmeasured};
-use journal::inner::length_fits;
+use crate::course::{Course, Input, is_journal, say_unmeasured};
 use laps::{Broken, Endless, Pass};
 use lines::refusals::{say_refused, say_waited};
 use lines::states::Stated;
@@ -20,7 +19,7 @@ fn words(p: Pass) -> &'static str {
 
 // The stem's length is looked at first: where it is right, 7 is the lap's.
 fn say_lengths(page: &mut Page, stem: Input, lap: Input) -> Answer {
-    if length_fits(stem.bytes) {
+    if is_journal(stem.bytes) {
         say_unmeasured(page, lap)
     } else {
         say_unmeasured(page, stem)

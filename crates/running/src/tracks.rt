@@ -1,6 +1,5 @@
 // The tracker, entry by entry.
-use crate::course::{Course, say_unmeasured};
-use journal::inner::{entry_at, length_fits};
+use crate::course::{Course, is_journal, say_unmeasured};
 use lines::display::Flag;
 use lines::refusals::say_waited;
 use lines::states::{Stated, say_marking};
@@ -46,10 +45,11 @@ fn advanced(
 
 // The state after the journal; or the one that stays, where an entry is refused.
 fn follow(page: &mut Page, course: &Course, start: Track) -> Result<Track, Track> {
-    let journal = course.journal.bytes;
     let mut t = start;
-    for k in 0..journal.len() / 3 {
-        t = advanced(page, course, t, k, entry_at(journal, k))?;
+    for k in 0..course.journal.bytes.len() / 3 {
+        if let Some(e) = course.entry(k) {
+            t = advanced(page, course, t, k, e)?;
+        }
     }
     Ok(t)
 }
@@ -70,7 +70,7 @@ fn say_tracked(page: &mut Page, course: &Course, start: Track) -> Answer {
 }
 
 pub fn track(page: &mut Page, course: &Course) -> Answer {
-    if !length_fits(course.journal.bytes) {
+    if !is_journal(course.journal.bytes) {
         return say_unmeasured(page, course.journal);
     }
     match tracker::start(course.job, course.start) {

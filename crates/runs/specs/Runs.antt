@@ -21,10 +21,10 @@ use Rattle.rules.specs.Entries.{entry_back, entry_inside}
 use Rattle.journal.specs.Ran.{Ran}
 use Rattle.journal.specs.Journal.{entries, length_fits}
 use Rattle.journal.specs.Run.{go_on, run_from, length_lines, run_lines, ran_of, the_run, marking_of_run}
-use Rattle.journal.specs.Laws.{fits_threes, fits_most, entries_append, run_graph, run_outside, run_clear}
+use Rattle.journal.specs.Laws.{fits_threes, fits_most, entries_append, run_graph, run_outside, run_clear, same_ended, same_stopped}
 use Rattle.std.specs.Prelude.{Ok, Err}
 use Rattle.moves.specs.Move.{denied}
-use Rattle.journal.specs.Ran.{ended, same_ended, same_stopped}
+use Rattle.journal.specs.Ran.{ended}
 use Rattle.journal.specs.Ran.{stopped}
 
 -- ---- one after the other

@@ -1,11 +1,12 @@
-use Rattle.std.proofs.Common.{◌≡◌, ◌-◌, ◌<◌, ◌≤◌, ◌^◌, ◌++◌, length, take}
+use Rattle.std.proofs.Common.{◌≡◌, ◌+◌, ◌-◌, ◌<◌, ◌≤◌, ◌^◌, length}
+use Rattle.std.proofs.lemmas.List.Edits.{sets}
 use Rattle.numbers.specs.Numbers.{bytes}
 use Rattle.numbers.proofs.put.Given as goal
 
-abbrev pub invariant-loop-byte : goal.invariant-loop-byte
-invariant-loop-byte l = record {
-  same : length l.byte-items ≡ l.w;
-  within : l.byte-index ≤ l.w;
+abbrev pub invariant-loop-k : goal.invariant-loop-k
+invariant-loop-k l = record {
+  same : length l.room ≡ length l.initial.room;
+  within : l.k ≤ l.w;
   small : l.rest < 2 ^ 64;
-  spelt : take l.byte-index l.byte-items ++ bytes (l.w - l.byte-index) l.rest ≡ bytes l.w l.x;
+  left : sets l.initial.room l.at (bytes l.w l.x) ≡ sets l.room (l.at + l.k) (bytes (l.w - l.k) l.rest);
 }
