@@ -3,6 +3,7 @@ ghost use Rattle.std.specs.Prelude.{◌≡◌};
 
 use crate::display::Set;
 use crate::refusals::say_refused;
+use itoa::Buffer;
 use moves::{Entry, Marking, Refusal};
 use output::page::Page;
 use output::status::Answer;
@@ -54,10 +55,21 @@ impl From<Entry> for Stated {
     }
 }
 
+// By `itoa` and not by `write!`, which takes longer for a number than for all else of its line: a journal has many.
+fn number<W: fmt::Write>(f: &mut fmt::Formatter<W>, n: u64) -> fmt::Result {
+    let mut digits = Buffer::new();
+    f.write_str(digits.format(n))
+}
+
 impl Display for Stated {
     fn fmt<W: fmt::Write>(&self, f: &mut fmt::Formatter<W>) -> fmt::Result {
         let s = *self;
-        write!(f, "person {}, step {}, role {}", s.person, s.step, s.role)
+        f.write_str("person ")?;
+        number(f, s.person)?;
+        f.write_str(", step ")?;
+        number(f, s.step)?;
+        f.write_str(", role ")?;
+        number(f, s.role)
     }
 }
 

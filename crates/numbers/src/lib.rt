@@ -32,12 +32,16 @@ pub fn eight(s: &[u8], at: usize) -> u64
 }
 
 // Spells x in w bytes from `at` on, and gives the place after them. Room and place stay two: `Spliced`, the promise of every writer,
-// is of the whole room, and with no heap there is no `Vec` to push to. The bytes are counted out, since `put` asks nothing of w and
-// `to_le_bytes` has eight; and by their number, since the compiler makes one store of them then, and eight where a slice is gone over.
+// is of the whole room, and with no heap there is no `Vec` to push to. Eight bytes are one store. Others are counted out, since `put`
+// asks nothing of w and `to_le_bytes` has eight.
 pub fn put(x: u64, w: usize, room: &mut [u8], at: usize) -> usize
     requires { at + w ≤ length room.old }
     ensures { Spliced (bytes w x) at room.old room.new result }
 {
+    if w == 8 {
+        room[at..at + 8].copy_from_slice(&x.to_le_bytes());
+        return at + 8;
+    }
     let mut rest = x;
     for k in 0..w {
         room[at + k] = (rest % 256) as u8;

@@ -56,15 +56,6 @@ impl Page {
         }
     }
 
-    // One by one: a page that becomes full is written out on the way.
-    fn put_all(&mut self, bytes: &[u8])
-        ensures { Goes self.old bytes.now self.new }
-    {
-        for b in bytes {
-            self.put(*b);
-        }
-    }
-
     // What `write!(page, ..)` calls. It answers nothing, since the page keeps whether it is torn, and promises nothing, since what a
     // Display writes is its own.
     pub fn write_fmt<T: Display + Drop>(&mut self, text: T) {
@@ -89,14 +80,10 @@ impl Page {
 impl Write for Page {
     ghost write_str_gives = { Goes };
 
-    // Nearly every text has room, and is copied at once.
     fn write_str(&mut self, text: &str) -> fmt::Result {
-        match self.text.try_extend_from_slice(text.as_bytes()) {
-            Ok(()) => Ok(()),
-            Err(_) => {
-                self.put_all(text.as_bytes());
-                Ok(())
-            }
+        for b in text.as_bytes() {
+            self.put(*b);
         }
+        Ok(())
     }
 }
